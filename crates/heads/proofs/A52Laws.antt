@@ -1,0 +1,162 @@
+-- The definitions of AC-3's and E-AC-3's heads from their bytes. Assumes nothing.
+use mathlib.Core.Path.{_≡_, refl, sym, _∙_, ap}
+use mathlib.Core.Bool.{Bool, true, false, not, cond}
+use mathlib.Core.List.{List}
+use Prim.Native.Nat.{ℕ, _≤_, _<_, _+_, _-_, _*_, _/_, _%_, _^_}
+use native.Mathlib.Nat.{add-zero}
+use native.Mathlib.Omega.{arith}
+use lib.Dec.{leb, eqb, leb→le, eqb→eq}
+use lib.ListN.{length, getD}
+use lib.Pow.{field, mod-mod-pow}
+use borrow.Author.Tests.{lt-ltb, le-ltb, eq-eqb, ne-eqb}
+use Rattle.heads.proofs.Below.{below}
+use Rattle.heads.specs.Bits.{Bytes, number, total}
+use Rattle.heads.specs.Judge.{refuseIf}
+use Rattle.heads.specs.declared.fields.Ac3Fields.{Ac3Fields}
+use Rattle.heads.specs.Ac3.{ac3Fields, ac3Judged, acmodOf, ac3TailWidths, cmixlevBits, surmixlevBits, dsurmodBits, mixBits, ac3Read, ac3Words, ac3Kbps, ac3Rates, nfchans}
+use Rattle.heads.specs.Eac3.{eac3Fields, eac3Judged, eac3Read, fscodOf, eac3TailWidths, fscod2Bits, numblkscodBits, eac3Rates, eac3Blocks}
+use Rattle.heads.specs.A52.{a52Head, byBsid, ac3Syncword}
+use Rattle.heads.specs.declared.info.Head.{Head}
+use Rattle.heads.specs.declared.info.Head.the-variants.{Refused}
+use Rattle.heads.specs.declared.info.Refusal.the-variants.{ShortHead, NoSyncWord, ReservedCode}
+
+pub short : (b : List ℕ) → length b < 6 → Refused ShortHead ≡ a52Head b
+unfolding a52Head refuseIf
+short b p = rw (lt-ltb (length b) 6 p)
+
+-- of the five bits after acmod, at most four come before lfeon, and the widths divide all five
+fourTest : ℕ → Bool
+fourTest k = leb (mixBits k) 4
+
+pub four : (k : ℕ) → k < 8 → mixBits k ≤ 4
+unfolding fourTest mixBits cmixlevBits surmixlevBits dsurmodBits
+four k h = leb→le (mixBits k) 4 (below 8 fourTest tt k h)
+
+fiveTest : ℕ → Bool
+fiveTest k = eqb (total (ac3TailWidths k)) 5
+
+pub ac3-tail : (k : ℕ) → k < 8 → total (ac3TailWidths k) ≡ 5
+unfolding fiveTest ac3TailWidths mixBits cmixlevBits surmixlevBits dsurmodBits
+ac3-tail k h = eqb→eq (total (ac3TailWidths k)) 5 (below 8 fiveTest tt k h)
+
+-- whichever of fscod2 and numblkscod there is, fourteen bits follow fscod
+pub eac3-tail : (k : ℕ) → total (eac3TailWidths k) ≡ 14
+unfolding eac3TailWidths fscod2Bits numblkscodBits
+eac3-tail k = go (eqb k 3)
+  where
+    go : (t : Bool) → cond t 2 0 + (cond t 0 2 + 12) ≡ 14
+    go true = refl
+    go false = refl
+
+-- a bit below the lowest byte's fifth is that byte's
+low-bit : (q x r : ℕ) → r ≤ 4 → (q * 256 + x) / 2 ^ r % 2 ≡ x / 2 ^ r % 2
+low-bit q x r h =
+    let n = q * 256 + x in
+    let k : (7 - r) + (1 + r) ≡ 8 = omega arith in
+    let m : n % 256 ≡ x % 256 = omega arith in
+    let of : (y : ℕ) → y % 2 ^ (1 + r) ≡ y % 256 % 2 ^ (1 + r) = λ y. sym (rw k at (mod-mod-pow y (7 - r) (1 + r))) in
+    sym (field n 1 r) ∙ (rw (of n, m, ← of x) (field x 1 r))
+
+module _ (b : List ℕ) (byte : Bytes b) where
+  -- the sync word and bsid, in the same bits of both
+  pub syncword-is : eac3Fields b .syncword ≡ getD b 0 0 * 256 + getD b 1 0
+  unfolding Bytes number
+  syncword-is = rw (eac3-tail (fscodOf (number 6 b))) (omega (arith, byte 0, byte 1, byte 2, byte 3, byte 4, byte 5))
+
+  pub bsid-is : eac3Fields b .bsid ≡ getD b 5 0 / 8
+  unfolding Bytes number eac3TailWidths
+  bsid-is = omega (arith, byte 5)
+
+  -- a head of six bytes and more: the sync word, then bsid
+  pub chosen : (x : Head) → 6 ≤ length b → x ≡ refuseIf (not (eqb (getD b 0 0 * 256 + getD b 1 0) ac3Syncword)) NoSyncWord (byBsid b (getD b 5 0 / 8)) → x ≡ a52Head b
+  unfolding a52Head refuseIf
+  chosen x p j = rw (le-ltb (length b) 6 p, syncword-is, bsid-is) j
+
+  -- the fields of E-AC-3 where the widths are known
+  frmsiz-is : number 6 b / 2 ^ 16 % 2 ^ 11 ≡ getD b 2 0 % 8 * 256 + getD b 3 0
+  unfolding Bytes number
+  frmsiz-is = omega (arith, byte 2, byte 3, byte 4, byte 5)
+
+  fscod-is : number 6 b / 2 ^ 14 % 2 ^ 2 ≡ getD b 4 0 / 64
+  unfolding Bytes number
+  fscod-is = omega (arith, byte 4, byte 5)
+
+  code2-is : number 6 b / 2 ^ 12 % 2 ^ 2 ≡ getD b 4 0 / 16 % 4
+  unfolding Bytes number
+  code2-is = omega (arith, byte 4, byte 5)
+
+  acmod-is : number 6 b / 2 ^ 9 % 2 ^ 3 ≡ getD b 4 0 / 2 % 8
+  unfolding Bytes number
+  acmod-is = omega (arith, byte 4, byte 5)
+
+  lfeon-is : number 6 b / 2 ^ 8 % 2 ^ 1 ≡ getD b 4 0 % 2
+  unfolding Bytes number
+  lfeon-is = omega (arith, byte 4, byte 5)
+
+  -- E-AC-3 at a reduced rate, and at a full one
+  pub halved : (x : Head) → getD b 4 0 / 64 ≡ 3 → x ≡ refuseIf (eqb (getD b 4 0 / 16 % 4) 3) ReservedCode (eac3Read ((getD b 2 0 % 8 * 256 + getD b 3 0 + 1) * 2) 6 (getD eac3Rates (getD b 4 0 / 16 % 4) 0) (nfchans (getD b 4 0 / 2 % 8) + getD b 4 0 % 2)) → x ≡ eac3Judged (eac3Fields b)
+  unfolding eac3Judged eac3TailWidths fscod2Bits numblkscodBits
+  halved x h j =
+      let three = eq-eqb (fscodOf (number 6 b)) 3 (fscod-is ∙ h) in
+      rw (three, three, frmsiz-is, code2-is, acmod-is, lfeon-is) j
+
+  pub whole : (x : Head) → (getD b 4 0 / 64 ≡ 3 → ⊥) → x ≡ eac3Read ((getD b 2 0 % 8 * 256 + getD b 3 0 + 1) * 2) (getD eac3Blocks (getD b 4 0 / 16 % 4) 0) (getD ac3Rates (getD b 4 0 / 64) 0) (nfchans (getD b 4 0 / 2 % 8) + getD b 4 0 % 2) → x ≡ eac3Judged (eac3Fields b)
+  unfolding eac3Judged eac3TailWidths fscod2Bits numblkscodBits
+  whole x h j =
+      let other = ne-eqb (fscodOf (number 6 b)) 3 (λ e. h (sym fscod-is ∙ e)) in
+      rw (other, other, frmsiz-is, fscod-is, code2-is, acmod-is, lfeon-is) j
+
+-- the fields of AC-3 that are judged, from the bytes
+abbrev pub ac3ByBytes : List ℕ → Ac3Fields
+ac3ByBytes b =
+    let f = ac3Fields b in
+    record {
+      syncword = f .syncword;
+      crc1 = f .crc1;
+      fscod = getD b 4 0 / 64;
+      frmsizecod = getD b 4 0 % 64;
+      bsid = f .bsid;
+      bsmod = f .bsmod;
+      acmod = getD b 6 0 / 32;
+      cmixlev = f .cmixlev;
+      surmixlev = f .surmixlev;
+      dsurmod = f .dsurmod;
+      lfeon = getD b 6 0 / 2 ^ (4 - mixBits (getD b 6 0 / 32)) % 2;
+    }
+
+module _ (b : List ℕ) (byte : Bytes b) where
+  five : total (ac3TailWidths (acmodOf (number 7 b))) ≡ 5
+  five = ac3-tail (acmodOf (number 7 b)) (omega arith)
+
+  size-rate-is : ac3Fields b .fscod ≡ getD b 4 0 / 64
+  unfolding Bytes number
+  size-rate-is = rw five (omega (arith, byte 4, byte 5, byte 6))
+
+  size-is : ac3Fields b .frmsizecod ≡ getD b 4 0 % 64
+  unfolding Bytes number
+  size-is = rw five (omega (arith, byte 4, byte 5, byte 6))
+
+  mode-of : acmodOf (number 7 b) ≡ getD b 6 0 / 32
+  unfolding Bytes number
+  mode-of = omega (arith, byte 6)
+
+  mode-is : ac3Fields b .acmod ≡ getD b 6 0 / 32
+  mode-is = rw five mode-of
+
+  lfe-is : ac3Fields b .lfeon ≡ getD b 6 0 / 2 ^ (4 - mixBits (getD b 6 0 / 32)) % 2
+  unfolding number ac3TailWidths
+  lfe-is = rw (add-zero, mode-of) (low-bit (number 6 b) (getD b 6 0) (4 - mixBits (getD b 6 0 / 32)) (omega arith))
+
+  -- what the fields say, from the bytes
+  pub judged : (x : Head) → x ≡ ac3Judged (length b) (ac3ByBytes b) → x ≡ ac3Judged (length b) (ac3Fields b)
+  judged x j =
+      let f = ac3Fields b in
+      j ∙ λ i. ac3Judged (length b) (record { syncword = f .syncword; crc1 = f .crc1; fscod = sym size-rate-is i; frmsizecod = sym size-is i; bsid = f .bsid; bsmod = f .bsmod; acmod = sym mode-is i; cmixlev = f .cmixlev; surmixlev = f .surmixlev; dsurmod = f .dsurmod; lfeon = sym lfe-is i })
+
+-- what is reported of an AC-3 frame, from what each part was found to be
+pub reported : (fscod size acmod last mix words kbps channels : ℕ) → words ≡ ac3Words fscod size → kbps ≡ ac3Kbps size → mix ≡ mixBits acmod → channels ≡ nfchans acmod + last / 2 ^ (4 - mix) % 2 → ac3Read words (getD ac3Rates fscod 0) kbps channels ≡ ac3Read (ac3Words fscod size) (getD ac3Rates fscod 0) (ac3Kbps size) (nfchans acmod + last / 2 ^ (4 - mixBits acmod) % 2)
+reported fscod size acmod last mix words kbps channels w k m c = rw (c, w, k, m)
+
+-- and of an E-AC-3 frame
+pub told : (x : Head) (n blocks rate c channels : ℕ) → c ≡ channels → x ≡ eac3Read n blocks rate c → x ≡ eac3Read n blocks rate channels
+told x n blocks rate c channels e h = rw (← e) h

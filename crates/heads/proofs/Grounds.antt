@@ -1,0 +1,94 @@
+-- How a judgement is shown at a `return`: each ground that was passed is not there, and the one that stopped it is.
+-- `search grounds depth N` finds the tests in what is known at the place. Assumes nothing.
+use mathlib.Core.Path.{_≡_, refl, ap}
+use mathlib.Core.Bool.{Bool, true, false, not, cond, _&&_}
+use Prim.Native.Nat.{ℕ, suc, _+_, _*_, _<_, _≤_}
+use lib.Dec.{T, eqb, ltb, leb, eqb→eq}
+use native.Mathlib.Nat.{le-of-suc-le-suc}
+use Rattle.heads.proofs.Table.{least, most}
+use borrow.Author.Tests.{lt-ltb, le-ltb, eq-eqb, ne-eqb, le-leb, lt-leb}
+use Rattle.heads.specs.Judge.{refuseIf}
+use Rattle.heads.specs.declared.info.Head.{Head}
+use Rattle.heads.specs.declared.info.Head.the-variants.{Read, Refused}
+use Rattle.heads.specs.declared.info.Refusal.{Refusal}
+use Rattle.heads.specs.declared.info.AudioFrameKind.{AudioFrameKind}
+use Rattle.heads.specs.declared.info.BitRate.{BitRate}
+use Rattle.heads.specs.declared.info.BitRate.the-variants.{Coded}
+
+pub stop : (t : Bool) (n : Refusal) (rest : Head) → t ≡ true → Refused n ≡ refuseIf t n rest
+unfolding refuseIf
+stop t n rest e = rw e
+
+pub pass : (t : Bool) (n : Refusal) (x rest : Head) → t ≡ false → x ≡ rest → x ≡ refuseIf t n rest
+unfolding refuseIf
+pass t n x rest e p = rw e p
+
+-- a frame that is reported, part by part
+pub read-is : (k : AudioFrameKind) (n n′ s s′ r r′ c c′ : ℕ) (q q′ : BitRate) → n ≡ n′ → s ≡ s′ → r ≡ r′ → c ≡ c′ → q ≡ q′ → Read (record { kind = k; «frame_len» = n; «samples_per_frame» = s; «sample_rate» = r; channels = c; «bit_rate» = q }) ≡ Read (record { kind = k; «frame_len» = n′; «samples_per_frame» = s′; «sample_rate» = r′; channels = c′; «bit_rate» = q′ })
+read-is k n n′ s s′ r r′ c c′ q q′ en es er ec eq = rw (en, es, er, ec, eq)
+
+pub coded-is : (k k′ m : ℕ) → k ≡ k′ → Coded (k * m) ≡ Coded (k′ * m)
+coded-is k k′ m e = rw e
+
+pub times-is : (k k′ m : ℕ) → k ≡ k′ → k * m ≡ k′ * m
+times-is k k′ m e = rw e
+
+pub plus-is : (c k k′ m : ℕ) → c ≡ m + k → k ≡ k′ → c ≡ m + k′
+plus-is c k k′ m e f = rw (e, f)
+
+pub ruleset parts = (read-is, coded-is, times-is, plus-is)
+
+-- of a value by cases, the case that the tests chose
+pub yes-is : {A : Type 0} (t : Bool) (x a b : A) → t ≡ true → x ≡ a → x ≡ cond t a b
+yes-is t x a b e p = rw e p
+
+pub no-is : {A : Type 0} (t : Bool) (x a b : A) → t ≡ false → x ≡ b → x ≡ cond t a b
+no-is t x a b e p = rw e p
+
+-- both cases say the same
+pub either-is : {A : Type 0} (t : Bool) (x a b : A) → x ≡ a → x ≡ b → x ≡ cond t a b
+either-is true x a b p q = p
+either-is false x a b p q = q
+
+pub differs : (a b : ℕ) → (a ≡ b → ⊥) → not (eqb a b) ≡ true
+differs a b h = ap not (ne-eqb a b h)
+
+pub agrees : (a b : ℕ) → a ≡ b → not (eqb a b) ≡ false
+agrees a b h = ap not (eq-eqb a b h)
+
+-- in the arm of a number k, the test for another one fails
+pub other : (a b k : ℕ) → a ≡ k → T (not (eqb k b)) → eqb a b ≡ false
+other a b k e t = rw e (not-T-false t)
+  where
+    not-T-false : T (not (eqb k b)) → eqb k b ≡ false
+    not-T-false = is (eqb k b)
+      where
+        is : (u : Bool) → T (not u) → u ≡ false
+        is true v = absurd v
+        is false v = refl
+
+-- of two tests
+pub both-hold : (s t : Bool) → s ≡ true → t ≡ true → s && t ≡ true
+both-hold s t e f = rw (e, f)
+
+pub first-fails : (s t : Bool) → s ≡ false → s && t ≡ false
+first-fails s t e = rw e
+
+pub second-fails : (s t : Bool) → s ≡ true → t ≡ false → s && t ≡ false
+second-fails s t e f = rw (e, f)
+
+-- in the arm of a range that ends at n, which is tested as below the next number
+pub at-most : (a n k : ℕ) → a < k → T (eqb k (suc n)) → leb a n ≡ true
+at-most a n k p t = le-leb a n (le-of-suc-le-suc (rw (eqb→eq k (suc n) t) at p))
+
+pub not-at-most : (a n k : ℕ) → k ≤ a → T (eqb k (suc n)) → leb a n ≡ false
+not-at-most a n k p t = lt-leb a n (rw (eqb→eq k (suc n) t) at p)
+
+-- the same tests where one side is a callee's result
+pub lt-ltb-of : (a b n : ℕ) → n ≡ b → a < n → ltb a b ≡ true
+lt-ltb-of a b n e p = lt-ltb a b (rw e at p)
+
+pub le-ltb-of : (a b n : ℕ) → n ≡ b → n ≤ a → ltb a b ≡ false
+le-ltb-of a b n e p = le-ltb a b (rw e at p)
+
+pub ruleset grounds = (stop, pass, yes-is, no-is, differs, agrees, other, at-most, not-at-most, both-hold, first-fails, second-fails, lt-ltb-of, le-ltb-of, least, most, tt, lt-ltb, le-ltb, eq-eqb, ne-eqb, le-leb, lt-leb)

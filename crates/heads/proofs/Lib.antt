@@ -1,0 +1,13 @@
+pub mod Table
+pub mod Below
+pub mod Pack
+pub mod Bytes
+pub mod Grounds
+pub mod Columns
+pub mod SyncWord
+pub mod AdtsLaws
+pub mod MpegLaws
+pub mod A52Laws
+pub mod SyntaxLaws
+pub mod HostLaws
+pub mod Skip

@@ -1,0 +1,67 @@
+// What a host program calls: heads and durations on numbers and byte slices.
+ghost use mathlib.Core.Path.{_≡_};
+ghost use Prim.Native.Nat.{_≤_, _+_};
+ghost use mathlib.Core.List.{_++_};
+ghost use lib.ListN.{length, take, drop};
+ghost use Rattle.heads.specs.Duration.{duration90k};
+ghost use Rattle.heads.specs.Host.{le32, infoBytes, hostNumber, hostBytes};
+use crate::info::AudioFrameInfo;
+use crate::info::Head;
+use crate::info::ticks_90k;
+use crate::syntax::parse_head;
+
+// A head by syntax code: 0 and its six numbers in the first 24 bytes of out, or the refusal's number with out as it was. In order:
+// 7 for the code, 12 for too short an out, then the reader's own.
+#[no_mangle]
+pub extern "C" fn audio_frame_head(code: u32, b: &[u8], out: &mut [u8]) -> u32
+    ensures { λ r. ⌜ r ≡ hostNumber code (now (b .entry)) (length (now (out .entry))) ⌝ }
+    ensures { λ _. ⌜ now (out .exit) ≡ hostBytes code (now (b .entry)) (now (out .entry)) ⌝ }
+{
+    if code > 2 {
+        return 7;
+    }
+    if out.len() < 24 {
+        return 12;
+    }
+    match parse_head(code, b) {
+        Head::Read(info) => {
+            put_info(out, info);
+            0
+        }
+        Head::Refused(refusal) => refusal.number(),
+    }
+}
+
+// The duration of so many samples at that rate in 90 kHz ticks.
+#[no_mangle]
+pub extern "C" fn audio_frame_duration_90k(samples: u32, rate: u32) -> u32
+    ensures { λ r. ⌜ r ≡ duration90k samples rate ⌝ }
+{
+    ticks_90k(samples, rate)
+}
+
+// Kind, length, samples, rate, channels, bit rate or 0.
+fn put_info(out: &mut [u8], info: AudioFrameInfo)
+    requires { ⌜ 24 ≤ length (now out) ⌝ }
+    ensures { λ _. ⌜ now (out .exit) ≡ infoBytes info ++ drop 24 (now (out .entry)) ⌝ }
+{
+    let kind = info.kind;
+    let bit_rate = info.bit_rate;
+    put_u32(out, 0, kind.number());
+    put_u32(out, 4, (info.frame_len % 0x1_0000_0000) as u32);
+    put_u32(out, 8, info.samples_per_frame);
+    put_u32(out, 12, info.sample_rate);
+    put_u32(out, 16, info.channels as u32);
+    put_u32(out, 20, bit_rate.number());
+}
+
+// x as four bytes at place i, lowest first.
+fn put_u32(out: &mut [u8], i: usize, x: u32)
+    requires { ⌜ i + 4 ≤ length (now out) ⌝ }
+    ensures { λ _. ⌜ now (out .exit) ≡ take i (now (out .entry)) ++ le32 x ++ drop (i + 4) (now (out .entry)) ⌝ }
+{
+    out[i] = (x % 256) as u8;
+    out[i + 1] = (x / 256 % 256) as u8;
+    out[i + 2] = (x / 65536 % 256) as u8;
+    out[i + 3] = (x / 16777216 % 256) as u8;
+}

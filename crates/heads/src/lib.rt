@@ -1,0 +1,28 @@
+// Heads of audio frames: AC-3 and E-AC-3 (A/52), MPEG audio (ISO/IEC 11172-3, 13818-3) and ADTS (13818-7). What a head says of its
+// frame, or the ground on which it is refused. The layers above go by the contracts here and by proofs/Promise.antt alone.
+mod ac3;
+mod adts;
+mod fields;
+mod host;
+mod info;
+mod mpeg;
+mod sync;
+mod syntax;
+
+pub use ac3::parse_ac3_frame;
+pub use adts::parse_adts_header;
+pub use fields::Ac3Fields;
+pub use fields::AdtsFields;
+pub use fields::Eac3Fields;
+pub use fields::MpegFields;
+pub use host::audio_frame_duration_90k;
+pub use host::audio_frame_head;
+pub use info::AudioFrameInfo;
+pub use info::AudioFrameKind;
+pub use info::BitRate;
+pub use info::Head;
+pub use info::Refusal;
+pub use mpeg::parse_mpeg_audio_header;
+pub use syntax::AudioSyntax;
+pub use syntax::CodedSyntax;
+pub use syntax::parse_head;
