@@ -136,6 +136,15 @@ module _ (b : List ℕ) (byte : Bytes b) where
   unfolding Bytes number
   size-is = rw five (omega (arith, byte 4, byte 5, byte 6))
 
+  -- the sync word and bsid stand in the same bits of AC-3 and E-AC-3
+  pub same-syncword : ac3Fields b .syncword ≡ eac3Fields b .syncword
+  unfolding Bytes number
+  same-syncword = rw five (omega (arith, syncword-is b byte, byte 0, byte 1, byte 2, byte 3, byte 4, byte 5, byte 6))
+
+  pub same-bsid : ac3Fields b .bsid ≡ eac3Fields b .bsid
+  unfolding Bytes number
+  same-bsid = rw five (omega (arith, bsid-is b byte, byte 5, byte 6))
+
   mode-of : acmodOf (number 7 b) ≡ getD b 6 0 / 32
   unfolding Bytes number
   mode-of = omega (arith, byte 6)

@@ -11,3 +11,9 @@ pub mod A52Laws
 pub mod SyntaxLaws
 pub mod HostLaws
 pub mod Skip
+pub mod Local
+pub mod Reported
+pub mod Promise
+pub mod Tables
+pub mod Cases
+pub mod Reached

@@ -9,5 +9,7 @@ pub mod Mpeg
 pub mod Adts
 pub mod Syntax
 pub mod Sync
+pub mod Promise
 pub mod Duration
 pub mod Host
+pub mod Cases

@@ -142,10 +142,10 @@ pub fn parse_mpeg_audio_header(b: &[u8]) -> Head
         return Head::Refused(Refusal::Unsupported);
     }
     if bitrate_index == 0 {
-        return Head::Refused(Refusal::BitRateIndex);
+        return Head::Refused(Refusal::BitRateIndex); // free format
     }
     if bitrate_index == 15 {
-        return Head::Refused(Refusal::BitRateIndex);
+        return Head::Refused(Refusal::BitRateIndex); // forbidden
     }
     if sf_index == 3 {
         return Head::Refused(Refusal::ReservedCode);

@@ -56,7 +56,7 @@ mul-frame-len : tie.Need-mul-frame-len
 mul-frame-len c = omega (arith, c .before .before .before .before .before .before .before .shared-slice-known .given 3)
 
 returns : tie.Need-returns
-returns c = search (halved, told, known, grounds, c .before .before .before .before .before .before .before .before .before .shared-slice-known .given) depth 10
+returns c = search (halved, known, grounds, c .before .before .before .before .before .before .before .before .before .shared-slice-known .given) depth 10
 
 mul-sample-rate : tie.Need-mul-sample-rate
 mul-sample-rate c = search needs

@@ -29,15 +29,15 @@ layer3-shape-requires c κs = search needs
 
 returns : tie.Need-returns
 unfolding mpegShape
-returns c = search (grounds, fours, ones) depth 8
+returns c = search (grounds, fours) depth 8
 
 returns-2 : tie.Need-returns-2
 unfolding mpegShape
-returns-2 c = search (grounds, fours, ones) depth 8
+returns-2 c = search (grounds, ones) depth 8
 
 returns-3 : tie.Need-returns-3
 unfolding mpegShape
-returns-3 c = search (grounds, fours, ones) depth 8
+returns-3 c = search grounds depth 8
 
 pub mpeg-shape-spec : {M : Type 1} → statement M
 mpeg-shape-spec =

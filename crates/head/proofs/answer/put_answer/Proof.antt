@@ -1,0 +1,56 @@
+-- `put_answer` is safe and leaves the output within its block: a head that was asked for has at most 64 bytes.
+use mathlib.Core.Path.{ap}
+use native.Mathlib.Omega.{arith}
+use Rattle.head.specs.Request.{countOf}
+use borrow.Author.Needs.{needs}
+use Rattle.head.proofs.answer.put_answer.Statement.{statement}
+use Rattle.head.proofs.answer.put_answer.Tie as tie
+
+parse-request-requires : tie.Need-parse-request-requires
+parse-request-requires c κs = search needs
+
+enum-known-code : tie.Need-enum-known-code
+enum-known-code c = search needs
+
+put-head-requires : tie.Need-put-head-requires
+put-head-requires c κs = omega (arith, ap countOf (c .before .before .before .code .given .1))
+
+enum-known-samples : tie.Need-enum-known-samples
+enum-known-samples c = search needs
+
+put-duration-requires : tie.Need-put-duration-requires
+put-duration-requires c κs = search needs
+
+enum-told : tie.Need-enum-told
+enum-told c = search needs
+
+put-byte-requires : tie.Need-put-byte-requires
+put-byte-requires c κs = search needs
+
+put-byte-requires-2 : tie.Need-put-byte-requires-2
+put-byte-requires-2 c κs = search needs
+
+returns : tie.Need-returns
+returns c = search needs
+
+returns-2 : tie.Need-returns-2
+returns-2 c = search needs
+
+returns-3 : tie.Need-returns-3
+returns-3 c = search needs
+
+pub put-answer-spec : {M : Type 1} → statement M
+put-answer-spec =
+    tie.close
+    (tie.spec
+    parse-request-requires
+    enum-known-code
+    put-head-requires
+    enum-known-samples
+    put-duration-requires
+    enum-told
+    put-byte-requires
+    put-byte-requires-2
+    returns
+    returns-2
+    returns-3)

@@ -1,0 +1,10 @@
+// Answers each line of standard input by one line on standard output: the head or the duration that it asks for, or '?'.
+mod answer;
+mod line;
+mod output;
+mod request;
+mod session;
+
+fn main() {
+    session::run();
+}

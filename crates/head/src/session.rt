@@ -1,0 +1,114 @@
+// A run over standard input, which comes in pieces that end anywhere: a line is collected up to its line feed, and then answered.
+use crate::answer::ANSWER_MAX;
+use crate::answer::put_answer;
+use crate::line::LINE_MAX;
+use crate::line::Line;
+use crate::output::BLOCK_LEN;
+use crate::output::Output;
+use libc::STDIN_FILENO;
+ghost use Prim.Native.Nat.{_≤_};
+ghost use Rattle.head.specs.Bounds.{HasRoom, Ready, Within};
+
+pub struct Session {
+    pub line: Line,
+    pub output: Output,
+    // Whether to go on reading.
+    pub open: bool,
+}
+
+// Answers all of standard input. A proved loop has to end, and nothing says that the input does, so the loop counts its turns down from a
+// number that no run uses up.
+pub fn run() {
+    let mut text = [0u8; LINE_MAX];
+    let mut block = [0u8; BLOCK_LEN];
+    let mut session = Session {
+        line: Line::new(),
+        output: Output::new(),
+        open: true,
+    };
+    let mut turns = u64::MAX;
+    while turns > 0 && session.open {
+        session = session.read_some(&mut text, &mut block);
+        turns -= 1;
+    }
+    session.finish(&text, &mut block).flushed(&block);
+}
+
+impl Session {
+    // Reads once and takes what came. A read that fails counts as the end of the input.
+    fn read_some(self, text: &mut [u8; LINE_MAX], block: &mut [u8; BLOCK_LEN]) -> Self
+        requires { ⌜ Ready self ⌝ }
+        ensures { λ r. ⌜ Ready r ⌝ }
+    {
+        let mut input = io::large_buffer();
+        let got = libc::read(STDIN_FILENO, &mut input);
+        if got <= 0 {
+            return self.closed();
+        }
+        let n = io::count(got, &input);
+        self.feed(&input[..n], text, block)
+    }
+
+    fn closed(mut self) -> Self
+        requires { ⌜ Ready self ⌝ }
+        ensures { λ r. ⌜ Ready r ⌝ }
+    {
+        self.open = false;
+        self
+    }
+
+    // The line and the output are apart here, so that a byte of a line moves nothing but its count.
+    fn feed(self, bytes: &[u8], text: &mut [u8; LINE_MAX], block: &mut [u8; BLOCK_LEN]) -> Self
+        requires { ⌜ Ready self ⌝ }
+        ensures { λ r. ⌜ Ready r ⌝ }
+    {
+        let mut line = self.line;
+        let mut output = self.output;
+        for i in 0..bytes.len() {
+            let byte = bytes[i];
+            if byte != b'\n' {
+                line = line.push(text, byte);
+                continue;
+            }
+            output = end_line(output, block, text, line);
+            line = Line::new();
+        }
+        Session {
+            line,
+            output,
+            open: !output.failed,
+        }
+    }
+
+    // What is left to write. A last line that no line feed closes counts too, unless it is empty.
+    fn finish(self, text: &[u8; LINE_MAX], block: &mut [u8; BLOCK_LEN]) -> Output
+        requires { ⌜ Ready self ⌝ }
+        ensures { λ r. ⌜ r .len ≤ 8192 ⌝ }
+    {
+        let line = self.line;
+        let output = self.output;
+        if line.len == 0 {
+            return output;
+        }
+        end_line(output, block, text, line)
+    }
+}
+
+// Answers the line, and writes the block once the next answer might not fit any more.
+fn end_line(
+    output: Output,
+    block: &mut [u8; BLOCK_LEN],
+    text: &[u8; LINE_MAX],
+    line: Line,
+) -> Output
+    requires { ⌜ HasRoom output × Within line ⌝ }
+    ensures { λ r. ⌜ HasRoom r ⌝ }
+{
+    let len = line.len;
+    let bytes: &[u8] = text;
+    let answered = put_answer(output, block, &bytes[0..len]);
+    if answered.len <= BLOCK_LEN - ANSWER_MAX {
+        return answered;
+    }
+    answered.flushed(block)
+}

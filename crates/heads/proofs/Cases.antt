@@ -1,0 +1,17 @@
+-- Every starred case on heads and durations holds of the definitions: one claim, computed. Assumes nothing.
+use mathlib.Core.Path.{_≡_, refl}
+use mathlib.Core.List.{map}
+use Rattle.heads.specs.Bits.{number}
+use Rattle.heads.specs.Judge.{refuseIf}
+use Rattle.heads.specs.Ac3.{ac3Judged, ac3TailWidths, cmixlevBits, surmixlevBits, dsurmodBits, mixBits, ac3Words, ac3Kbps, nfchans}
+use Rattle.heads.specs.Eac3.{eac3Judged, eac3TailWidths, fscod2Bits, numblkscodBits}
+use Rattle.heads.specs.A52.{a52Head, byBsid}
+use Rattle.heads.specs.Mpeg.{mpegHead, mpegJudged, mpegKbps, mpegRate, mpegShape, layer3Shape, mpegChannels}
+use Rattle.heads.specs.Adts.{adtsHead, adtsJudged, adtsHeaderLength}
+use Rattle.heads.specs.Syntax.{headOf, headOfCode, syntaxOf}
+use Rattle.heads.specs.Duration.{duration90k}
+use Rattle.heads.specs.Cases.{Case, Answer, starred}
+
+pub starred-hold : map (λ (c : Case). c .asked) starred ≡ map (λ (c : Case). c .said) starred
+unfolding starred number refuseIf ac3Judged ac3TailWidths cmixlevBits surmixlevBits dsurmodBits mixBits ac3Words ac3Kbps nfchans eac3Judged eac3TailWidths fscod2Bits numblkscodBits a52Head byBsid mpegHead mpegJudged mpegKbps mpegRate mpegShape layer3Shape mpegChannels adtsHead adtsJudged adtsHeaderLength headOf headOfCode syntaxOf duration90k
+starred-hold = refl

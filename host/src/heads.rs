@@ -1,0 +1,91 @@
+//! Safe calls of the library under test, through its C exports (include/audio_frame.h).
+
+/// The six numbers of a head that reads (kind, length, samples, rate, channels, bit rate or 0), or
+/// the number of the refusal.
+pub type Answer = Result<[u32; 6], u32>;
+
+/// Bytes that the six numbers take.
+pub const RECORD: usize = 24;
+
+/// The longest `out` that [`read_guarded`] lends.
+pub const LONGEST_OUT: usize = 40;
+
+/// Bytes watched on each side of `out`.
+const GUARD: usize = 16;
+
+/// A byte that the call had to leave as it was, by its place counted from the start of `out`.
+#[derive(Debug, PartialEq)]
+pub struct Touched(pub isize);
+
+extern "C" {
+    fn audio_frame_head(
+        code: u32,
+        head: *const u8,
+        head_len: usize,
+        out: *mut u8,
+        out_len: usize,
+    ) -> u32;
+    fn audio_frame_duration_90k(samples: u32, rate: u32) -> u32;
+}
+
+/// Reads a head into `out` and returns 0 or the number of the refusal.
+pub fn read_into(code: u32, head: &[u8], out: &mut [u8]) -> u32 {
+    // SAFETY: each pointer and length come from one slice, and the two slices do not overlap.
+    unsafe { audio_frame_head(code, head.as_ptr(), head.len(), out.as_mut_ptr(), out.len()) }
+}
+
+/// Reads a head into `out_len` lent bytes and checks that every byte that had to stay did stay:
+/// those before and behind `out`, those from 24 on, and on a refusal all of them.
+pub fn read_guarded(code: u32, head: &[u8], out_len: usize) -> Result<Answer, Touched> {
+    assert!(out_len <= LONGEST_OUT);
+    let mut memory = PATTERN;
+    // The pointer is made from the whole of `memory`, so that a write into a guard is found below
+    // instead of being undefined.
+    let out = memory.as_mut_ptr().wrapping_add(GUARD);
+    // SAFETY: `out` has `out_len` bytes of `memory`, which `head`, a slice, does not overlap.
+    let status = unsafe { audio_frame_head(code, head.as_ptr(), head.len(), out, out_len) };
+    let answer = match status {
+        0 => Ok(record(&memory[GUARD..])),
+        number => Err(number),
+    };
+    let written = if status == 0 { RECORD.min(out_len) } else { 0 };
+    memory[GUARD..][..written].copy_from_slice(&PATTERN[GUARD..][..written]);
+    check_untouched(&memory).map(|()| answer)
+}
+
+/// The duration in 90 kHz ticks of `samples` at `rate`.
+pub fn duration_90k(samples: u32, rate: u32) -> u32 {
+    // SAFETY: the function takes and returns numbers only.
+    unsafe { audio_frame_duration_90k(samples, rate) }
+}
+
+const PATTERN: [u8; GUARD + LONGEST_OUT + GUARD] = pattern();
+
+/// Bytes that differ from their neighbours and are never small, so that a stray zero or a stray
+/// number of a record shows.
+const fn pattern() -> [u8; GUARD + LONGEST_OUT + GUARD] {
+    let mut bytes = [0; GUARD + LONGEST_OUT + GUARD];
+    let mut i = 0;
+    while i < bytes.len() {
+        bytes[i] = 0x80 | (i * 37 % 128) as u8;
+        i += 1;
+    }
+    bytes
+}
+
+/// All of `memory` must be the pattern, the record aside, which the caller has taken out.
+fn check_untouched(memory: &[u8; PATTERN.len()]) -> Result<(), Touched> {
+    if *memory == PATTERN {
+        return Ok(());
+    }
+    let place = memory.iter().zip(&PATTERN).position(|(now, before)| now != before);
+    Err(Touched(place.expect("they differ") as isize - GUARD as isize))
+}
+
+/// The six little-endian numbers at the start of `bytes`.
+fn record(bytes: &[u8]) -> [u32; 6] {
+    std::array::from_fn(|i| {
+        let four = [bytes[4 * i], bytes[4 * i + 1], bytes[4 * i + 2], bytes[4 * i + 3]];
+        u32::from_le_bytes(four)
+    })
+}
