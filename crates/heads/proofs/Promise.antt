@@ -1,36 +1,44 @@
 -- The promise of this layer: all that the layers above may use of a head, for the syntax as a parameter. Assumes nothing.
 use mathlib.Core.Path.{_≡_, refl, sym, _∙_, ap, subst}
-use mathlib.Core.Bool.{Bool, true, false, not}
+use mathlib.Core.Bool.{Bool, true, false, not, cond}
 use mathlib.Core.List.{List, _++_}
 use Prim.Native.Nat.{ℕ, suc, _≤_, _<_, _+_, _*_, _/_}
 use native.Mathlib.Nat.{add-zero}
 use native.Mathlib.Numerals.{add-one}
 use native.Mathlib.Omega.{arith}
-use lib.Dec.{eqb}
+use lib.Dec.{eqb, ltb}
 use lib.ListN.{length, getD, take, drop, List·getD-append}
 use lib.Seq.{getD-drop, take-append-le}
-use borrow.Author.Tests.{eq-eqb, ne-eqb, le-leb}
+use borrow.Author.Tests.{eq-eqb, ne-eqb, le-leb, ltb-true, ltb-false}
 use Rattle.heads.specs.Bits.{Bytes}
 use Rattle.heads.specs.Judge.{refuseIf}
+use Rattle.heads.specs.Numbers.{refusalNumber}
 use Rattle.heads.specs.Adts.{adtsHead, adtsJudged, adtsFields}
 use Rattle.heads.specs.Mpeg.{mpegHead, mpegJudged, mpegFields}
 use Rattle.heads.specs.Eac3.{eac3Fields}
 use Rattle.heads.specs.A52.{a52Head, ac3Syncword}
-use Rattle.heads.specs.Syntax.{headOf, needOf}
+use Rattle.heads.specs.Syntax.{headOf, needOf, syntaxOf, headOfCode}
 use Rattle.heads.specs.Sync.{pairBegins, syncPlace}
 use Rattle.heads.specs.Promise.{Unread, boundsOf, In, Within}
-use Rattle.heads.proofs.A52Laws.{syncword-is as a52-syncword}
-use Rattle.heads.proofs.AdtsLaws.{syncword-is as adts-syncword}
-use Rattle.heads.proofs.MpegLaws.{syncword-is as mpeg-syncword}
+use Rattle.heads.proofs.A52Laws.{short as a52-short, syncword-is as a52-syncword}
+use Rattle.heads.proofs.AdtsLaws.{short as adts-short, syncword-is as adts-syncword}
+use Rattle.heads.proofs.MpegLaws.{short as mpeg-short, syncword-is as mpeg-syncword}
 use Rattle.heads.proofs.Local.{a52-local, mpeg-local, adts-local, a52-grows, mpeg-grows, adts-grows}
 use Rattle.heads.proofs.Reported.{Good, a52-good, mpeg-good, adts-good}
 use Rattle.heads.proofs.Skip.{place-silent, place-room}
 use Rattle.heads.specs.declared.syntax.AudioSyntax.{AudioSyntax}
 use Rattle.heads.specs.declared.syntax.AudioSyntax.the-variants.{Ac3, MpegAudio, AacAdts}
+use Rattle.heads.specs.declared.syntax.CodedSyntax.{CodedSyntax}
+use Rattle.heads.specs.declared.syntax.CodedSyntax.the-variants.{Known}
 use Rattle.heads.specs.declared.info.AudioFrameInfo.{AudioFrameInfo}
 use Rattle.heads.specs.declared.info.Head.{Head}
 use Rattle.heads.specs.declared.info.Head.the-variants.{Read, Refused}
 use Rattle.heads.specs.declared.info.Refusal.{Refusal}
+use Rattle.heads.specs.declared.info.Refusal.the-variants.{ShortHead, SyntaxCode}
+
+-- a head that does not read says nothing of a frame
+pub not-read : (h : Head) (i : AudioFrameInfo) → Unread h → h ≡ Read i → ⊥
+not-read h i u e = subst Unread e u
 
 -- reading depends on the first `needOf s` bytes alone
 pub local : (s : AudioSyntax) (b : List ℕ) → headOf s (take (needOf s) b) ≡ headOf s b
@@ -176,3 +184,46 @@ unfolding syncPlace
 skipped-room Ac3 b k h = place-room 0x0B 0x77 0x77 b k h
 skipped-room MpegAudio b k h = place-room 0xFF 0xF0 0xFF b k h
 skipped-room AacAdts b k h = place-room 0xFF 0xF0 0xFF b k h
+
+-- the header need is 4 to 8 bytes, and no head reads from fewer than 4
+pub need-least : (s : AudioSyntax) → 4 ≤ needOf s
+unfolding needOf
+need-least Ac3 = omega arith
+need-least MpegAudio = omega arith
+need-least AacAdts = omega arith
+
+pub need-most : (s : AudioSyntax) → needOf s ≤ 8
+unfolding needOf
+need-most Ac3 = omega arith
+need-most MpegAudio = omega arith
+need-most AacAdts = omega arith
+
+few : (n : ℕ) (h : Head) (b : List ℕ) (i : AudioFrameInfo) → 4 ≤ n → (length b < n → Refused ShortHead ≡ h) → h ≡ Read i → 4 ≤ length b
+few n h b i p short e = go (ltb (length b) n) refl
+  where
+    go : (t : Bool) → ltb (length b) n ≡ t → 4 ≤ length b
+    go true t = absurd (not-read h i (subst Unread (short (ltb-true (length b) n t)) tt) e)
+    go false t = omega (arith, ltb-false (length b) n t)
+
+pub reads-from : (s : AudioSyntax) (b : List ℕ) (i : AudioFrameInfo) → headOf s b ≡ Read i → 4 ≤ length b
+unfolding headOf
+reads-from Ac3 b i e = few 6 (a52Head b) b i (omega arith) (a52-short b) e
+reads-from MpegAudio b i e = few 4 (mpegHead b) b i (omega arith) (mpeg-short b) e
+reads-from AacAdts b i e = few 7 (adtsHead b) b i (omega arith) (adts-short b) e
+
+-- reading by a code is reading by its syntax, and a code that has none is refused by 7
+pub coded : (code : ℕ) (s : AudioSyntax) (b : List ℕ) → syntaxOf code ≡ Known s → headOfCode code b ≡ headOf s b
+unfolding headOfCode
+coded code s b e = rw e
+
+pub uncoded : (code : ℕ) (ground : Refusal) → syntaxOf code ≡ CodedSyntax.Refused ground → refusalNumber ground ≡ 7
+unfolding syntaxOf
+uncoded code ground e = go (eqb code 0) (eqb code 1) (eqb code 2) e
+  where
+    go : (p q r : Bool) → cond p (Known Ac3) (cond q (Known MpegAudio) (cond r (Known AacAdts) (CodedSyntax.Refused SyntaxCode))) ≡ CodedSyntax.Refused ground → refusalNumber ground ≡ 7
+    go true q r e = absurd (let z : _≡_ {A = ℕ} 0 1 = cc in omega arith)
+    go false true r e = absurd (let z : _≡_ {A = ℕ} 0 1 = cc in omega arith)
+    go false false true e = absurd (let z : _≡_ {A = ℕ} 0 1 = cc in omega arith)
+    go false false false e =
+        let same : SyntaxCode ≡ ground = cc in
+        ap refusalNumber (sym same)
