@@ -10,7 +10,7 @@ use Rattle.heads.specs.Mpeg.{mpegHead, mpegJudged, mpegKbps, mpegRate, m
 use Rattle.heads.specs.Adts.{adtsHead, adtsJudged, adtsHeaderLength}
 use Rattle.heads.specs.Syntax.{headOf, headOfCode, syntaxOf}
 use Rattle.heads.specs.Duration.{duration90k}
-use Rattle.heads.specs.Cases.{Case, Answer, starred}
+use Rattle.heads.specs.Cases.{Case, starred}
 
 pub starred-hold : map (λ (c : Case). c .asked) starred ≡ map (λ (c : Case). c .said) starred
 unfolding starred number refuseIf ac3Judged ac3TailWidths cmixlevBits surmixlevBits dsurmodBits mixBits ac3Words ac3Kbps nfchans eac3Judged eac3TailWidths fscod2Bits numblkscodBits a52Head byBsid mpegHead mpegJudged mpegKbps mpegRate mpegShape layer3Shape mpegChannels adtsHead adtsJudged adtsHeaderLength headOf headOfCode syntaxOf duration90k

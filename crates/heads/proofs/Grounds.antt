@@ -2,18 +2,15 @@
 -- `search grounds depth N` finds the tests in what is known at the place. Assumes nothing.
 use mathlib.Core.Path.{_≡_, refl, ap}
 use mathlib.Core.Bool.{Bool, true, false, not, cond, _&&_}
-use Prim.Native.Nat.{ℕ, suc, _+_, _*_, _<_, _≤_}
+use Prim.Native.Nat.{ℕ, suc, _<_, _≤_}
 use lib.Dec.{T, eqb, ltb, leb, eqb→eq}
 use native.Mathlib.Nat.{le-of-suc-le-suc}
 use Rattle.heads.proofs.Table.{least, most}
 use borrow.Author.Tests.{lt-ltb, le-ltb, eq-eqb, ne-eqb, le-leb, lt-leb}
 use Rattle.heads.specs.Judge.{refuseIf}
 use Rattle.heads.specs.declared.info.Head.{Head}
-use Rattle.heads.specs.declared.info.Head.the-variants.{Read, Refused}
+use Rattle.heads.specs.declared.info.Head.the-variants.{Refused}
 use Rattle.heads.specs.declared.info.Refusal.{Refusal}
-use Rattle.heads.specs.declared.info.AudioFrameKind.{AudioFrameKind}
-use Rattle.heads.specs.declared.info.BitRate.{BitRate}
-use Rattle.heads.specs.declared.info.BitRate.the-variants.{Coded}
 
 pub stop : (t : Bool) (n : Refusal) (rest : Head) → t ≡ true → Refused n ≡ refuseIf t n rest
 unfolding refuseIf
@@ -22,21 +19,6 @@ stop t n rest e = rw e
 pub pass : (t : Bool) (n : Refusal) (x rest : Head) → t ≡ false → x ≡ rest → x ≡ refuseIf t n rest
 unfolding refuseIf
 pass t n x rest e p = rw e p
-
--- a frame that is reported, part by part
-pub read-is : (k : AudioFrameKind) (n n′ s s′ r r′ c c′ : ℕ) (q q′ : BitRate) → n ≡ n′ → s ≡ s′ → r ≡ r′ → c ≡ c′ → q ≡ q′ → Read (record { kind = k; «frame_len» = n; «samples_per_frame» = s; «sample_rate» = r; channels = c; «bit_rate» = q }) ≡ Read (record { kind = k; «frame_len» = n′; «samples_per_frame» = s′; «sample_rate» = r′; channels = c′; «bit_rate» = q′ })
-read-is k n n′ s s′ r r′ c c′ q q′ en es er ec eq = rw (en, es, er, ec, eq)
-
-pub coded-is : (k k′ m : ℕ) → k ≡ k′ → Coded (k * m) ≡ Coded (k′ * m)
-coded-is k k′ m e = rw e
-
-pub times-is : (k k′ m : ℕ) → k ≡ k′ → k * m ≡ k′ * m
-times-is k k′ m e = rw e
-
-pub plus-is : (c k k′ m : ℕ) → c ≡ m + k → k ≡ k′ → c ≡ m + k′
-plus-is c k k′ m e f = rw (e, f)
-
-pub ruleset parts = (read-is, coded-is, times-is, plus-is)
 
 -- of a value by cases, the case that the tests chose
 pub yes-is : {A : Type 0} (t : Bool) (x a b : A) → t ≡ true → x ≡ a → x ≡ cond t a b

@@ -1,9 +1,9 @@
 -- What the functions exported for C answer, and what the lent bytes then hold. Assumes nothing.
-use mathlib.Core.Path.{_≡_, refl, sym, _∙_, ap}
+use mathlib.Core.Path.{_≡_, refl}
 use mathlib.Core.List.{List, [], _∷_, _++_}
 use Prim.Native.Nat.{ℕ, suc, _≤_, _<_, _+_, _/_, _%_, _^_}
 use native.Mathlib.Omega.{arith}
-use lib.ListN.{length, take, drop, set, length-append}
+use lib.ListN.{length, take, drop, set}
 use lib.Pow.{field, mod-mod-pow}
 use lib.Seq.{sets-eq, take-at, drop-append-add, drop-drop}
 use borrow.Author.Tests.{lt-ltb, le-ltb}
@@ -23,10 +23,6 @@ put-four l i x h =
     let e2 : i + 2 ≡ suc (suc i) = omega arith in
     let e3 : i + 3 ≡ suc (suc (suc i)) = omega arith in
     rw (e1, e2, e3) (sets-eq (x % 256 ∷ x / 256 % 256 ∷ x / 65536 % 256 ∷ x / 16777216 % 256 ∷ []) l i h)
-
-le32-length : (x : ℕ) → length (le32 x) ≡ 4
-unfolding le32
-le32-length x = refl
 
 -- a number after those that are there: done are the first n bytes, of l as it was at entry
 next : (done l now last : List ℕ) (n x : ℕ) → length done ≡ n → now ≡ done ++ drop n l → last ≡ take n now ++ le32 x ++ drop (n + 4) now → last ≡ done ++ le32 x ++ drop (n + 4) l

@@ -19,7 +19,7 @@ use Rattle.heads.specs.Eac3.{eac3Fields}
 use Rattle.heads.specs.A52.{a52Head, ac3Syncword}
 use Rattle.heads.specs.Syntax.{headOf, needOf, syntaxOf, headOfCode}
 use Rattle.heads.specs.Sync.{pairBegins, syncPlace}
-use Rattle.heads.specs.Promise.{Unread, boundsOf, In, Within}
+use Rattle.heads.specs.Promise.{Unread, boundsOf, Within}
 use Rattle.heads.proofs.A52Laws.{short as a52-short, syncword-is as a52-syncword}
 use Rattle.heads.proofs.AdtsLaws.{short as adts-short, syncword-is as adts-syncword}
 use Rattle.heads.proofs.MpegLaws.{short as mpeg-short, syncword-is as mpeg-syncword}

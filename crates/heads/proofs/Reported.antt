@@ -2,16 +2,16 @@
 use mathlib.Core.Path.{_≡_, refl}
 use mathlib.Core.Bool.{Bool, true, false, not, cond, _&&_}
 use mathlib.Core.List.{List, [], _∷_}
-use Prim.Native.Nat.{ℕ, _≤_, _<_, _+_, _*_, _/_, _%_, _^_}
+use Prim.Native.Nat.{ℕ, _≤_, _<_, _+_, _%_, _^_}
 use native.Mathlib.Nat.{mod-lt}
 use native.Mathlib.Omega.{arith}
-use lib.Dec.{T, leb, ltb, eqb, leb→le}
-use lib.ListN.{length, getD}
+use lib.Dec.{T, leb, eqb, leb→le}
+use lib.ListN.{length}
 use lib.Pow.{pow-pos, pow-mono}
 use borrow.Author.Tests.{ltb-false, leb-false, eqb-false}
 use Rattle.heads.proofs.Table.{both, both-left, both-right, least, most}
 use Rattle.heads.proofs.Below.{upTo, below}
-use Rattle.heads.specs.Bits.{number, unpack}
+use Rattle.heads.specs.Bits.{number}
 use Rattle.heads.specs.Judge.{refuseIf}
 use Rattle.heads.specs.Numbers.{bitRateNumber}
 use Rattle.heads.specs.Adts.{adtsHead, adtsJudged, adtsFields, adtsRates, adtsChannels, adtsHeaderLength}

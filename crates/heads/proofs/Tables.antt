@@ -1,7 +1,7 @@
 -- The standards' tables, each tied to its rule or to a second form by a test that is computed over all of its entries. Assumes nothing.
 use mathlib.Core.Path.{_≡_}
 use mathlib.Core.Bool.{Bool, cond}
-use mathlib.Core.List.{List, [], _∷_}
+use mathlib.Core.List.{[], _∷_}
 use Prim.Native.Nat.{ℕ, _<_, _+_, _-_, _*_, _/_, _%_, _^_}
 use lib.Dec.{T, eqb, leb, eqb→eq}
 use lib.ListN.{getD}

@@ -7,7 +7,6 @@ use lib.Dec.{ltb, leb, eqb}
 use Rattle.heads.specs.Judge.{refuseIf}
 use Rattle.heads.specs.Ac3.{ac3Fields, ac3Judged}
 use Rattle.heads.specs.Eac3.{eac3Fields, eac3Judged}
-use Rattle.heads.specs.declared.fields.Eac3Fields.{Eac3Fields}
 use Rattle.heads.specs.declared.info.Head.{Head}
 use Rattle.heads.specs.declared.info.Head.the-variants.{Refused}
 use Rattle.heads.specs.declared.info.Refusal.the-variants.{ShortHead, NoSyncWord, Unsupported}

@@ -1,6 +1,6 @@
 // AC-3 and E-AC-3 syncframes, A/52.
 ghost use mathlib.Core.Path.{_≡_};
-ghost use Prim.Native.Nat.{_≤_, _<_, _+_, _*_};
+ghost use Prim.Native.Nat.{_≤_, _<_, _+_};
 ghost use lib.ListN.{length, getD};
 ghost use Rattle.heads.specs.Ac3.{ac3Fields, ac3Judged, ac3Words, ac3Kbps, nfchans, cmixlevBits, surmixlevBits, dsurmodBits, mixBits};
 ghost use Rattle.heads.specs.Eac3.{eac3Fields, eac3Judged, eac3Read};
@@ -10,6 +10,9 @@ use crate::info::AudioFrameKind;
 use crate::info::BitRate;
 use crate::info::Head;
 use crate::info::Refusal;
+
+// A/52 §5.4.1.1.
+const AC3_SYNCWORD: [u8; 2] = [0x0B, 0x77];
 
 // Six audio blocks of 256 samples.
 const AC3_SAMPLES_PER_SYNCFRAME: u32 = 1536;
@@ -182,10 +185,10 @@ pub fn parse_ac3_frame(b: &[u8]) -> Head
     if b.len() < 6 {
         return Head::Refused(Refusal::ShortHead);
     }
-    if b[0] != 0x0B {
+    if b[0] != AC3_SYNCWORD[0] {
         return Head::Refused(Refusal::NoSyncWord);
     }
-    if b[1] != 0x77 {
+    if b[1] != AC3_SYNCWORD[1] {
         return Head::Refused(Refusal::NoSyncWord);
     }
     let bsid = b[5] >> 3;
@@ -209,10 +212,10 @@ fn ac3_frame(b: &[u8]) -> Head
     if frmsizecod >= 38 {
         return Head::Refused(Refusal::ReservedCode);
     }
+    let words = ac3_frame_words(fscod, frmsizecod);
     if b.len() < 7 {
         return Head::Refused(Refusal::ShortHead);
     }
-    let words = ac3_frame_words(fscod, frmsizecod);
     let acmod = (b[6] >> 5) as usize;
     let lfeon = (b[6] >> (4 - mix_bits(acmod))) % 2;
     let channels = coded_channels(acmod, lfeon);
@@ -221,10 +224,10 @@ fn ac3_frame(b: &[u8]) -> Head
     let bit_rate = ac3_kbps(frmsizecod) as u32 * 1000;
     Head::Read(AudioFrameInfo {
         kind: AudioFrameKind::Ac3,
-        frame_len: frame_len,
+        frame_len,
         samples_per_frame: AC3_SAMPLES_PER_SYNCFRAME,
-        sample_rate: sample_rate,
-        channels: channels,
+        sample_rate,
+        channels,
         bit_rate: BitRate::Coded(bit_rate),
     })
 }
@@ -333,10 +336,10 @@ fn eac3_read(frame_len: usize, blocks: u32, sample_rate: u32, channels: u16) -> 
     let samples = blocks * 256;
     Head::Read(AudioFrameInfo {
         kind: AudioFrameKind::Eac3,
-        frame_len: frame_len,
+        frame_len,
         samples_per_frame: samples,
-        sample_rate: sample_rate,
-        channels: channels,
+        sample_rate,
+        channels,
         bit_rate: BitRate::Absent,
     })
 }

@@ -65,8 +65,8 @@ pub fn parse_adts_header(b: &[u8]) -> Head
         kind: AudioFrameKind::AacAdts,
         frame_len: frame_length,
         samples_per_frame: samples,
-        sample_rate: sample_rate,
-        channels: channels,
+        sample_rate,
+        channels,
         bit_rate: BitRate::Absent,
     })
 }

@@ -157,11 +157,11 @@ pub fn parse_mpeg_audio_header(b: &[u8]) -> Head
     let kind = shape.kind;
     let channels = mpeg_channels(mode);
     Head::Read(AudioFrameInfo {
-        kind: kind,
+        kind,
         frame_len: shape.frame_len,
         samples_per_frame: shape.samples,
-        sample_rate: sample_rate,
-        channels: channels,
+        sample_rate,
+        channels,
         bit_rate: BitRate::Coded(bitrate),
     })
 }
@@ -212,7 +212,7 @@ fn mpeg_shape(id: u8, layer_code: u8, sample_rate: u32, bitrate: u32, padding: u
         3 => {
             let frame_len = slots(12, bitrate, sample_rate) * 4 + padding * 4;
             MpegShape {
-                frame_len: frame_len,
+                frame_len,
                 samples: 384,
                 kind: AudioFrameKind::MpegLayer1,
             }
@@ -220,7 +220,7 @@ fn mpeg_shape(id: u8, layer_code: u8, sample_rate: u32, bitrate: u32, padding: u
         2 => {
             let frame_len = slots(144, bitrate, sample_rate) + padding;
             MpegShape {
-                frame_len: frame_len,
+                frame_len,
                 samples: 1152,
                 kind: AudioFrameKind::MpegLayer2,
             }
@@ -236,14 +236,14 @@ fn layer3_shape(id: u8, sample_rate: u32, bitrate: u32, padding: usize) -> MpegS
     if id == 1 {
         let frame_len = slots(144, bitrate, sample_rate) + padding;
         MpegShape {
-            frame_len: frame_len,
+            frame_len,
             samples: 1152,
             kind: AudioFrameKind::MpegLayer3,
         }
     } else {
         let frame_len = slots(72, bitrate, sample_rate) + padding;
         MpegShape {
-            frame_len: frame_len,
+            frame_len,
             samples: 576,
             kind: AudioFrameKind::MpegLayer3,
         }

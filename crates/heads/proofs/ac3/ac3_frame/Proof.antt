@@ -28,12 +28,12 @@ returns-2 : tie.Need-returns-2
 unfolding ac3Judged
 returns-2 c = search (judged, known, grounds, c .before .before .before .before .shared-slice-known .given) depth 12
 
-returns-3 : tie.Need-returns-3
-unfolding ac3Judged
-returns-3 c = search (judged, known, grounds, c .before .before .before .before .before .shared-slice-known .given) depth 12
-
 ac3-frame-words-requires : tie.Need-ac3-frame-words-requires
 ac3-frame-words-requires c κs = search needs
+
+returns-3 : tie.Need-returns-3
+unfolding ac3Judged
+returns-3 c = search (judged, known, grounds, c .before .before .before .before .before .before .shared-slice-known .given) depth 12
 
 shared-slice-read-acmod : tie.Need-shared-slice-read-acmod
 shared-slice-read-acmod c = search needs
@@ -94,8 +94,8 @@ ac3-frame-spec =
     cast-frmsizecod
     returns
     returns-2
-    returns-3
     ac3-frame-words-requires
+    returns-3
     shared-slice-read-acmod
     cast-acmod
     shared-slice-read-lfeon

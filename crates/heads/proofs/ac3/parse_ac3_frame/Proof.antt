@@ -13,12 +13,18 @@ returns c = search short
 shared-slice-read-if2 : tie.Need-shared-slice-read-if2
 shared-slice-read-if2 c = search needs
 
+array-read-if2 : tie.Need-array-read-if2
+array-read-if2 c = search needs
+
 returns-2 : tie.Need-returns-2
 unfolding byBsid
 returns-2 c = search (chosen, sync-words, grounds, c .before .before .before .shared-slice-known .given) depth 14
 
 shared-slice-read-if3 : tie.Need-shared-slice-read-if3
 shared-slice-read-if3 c = search needs
+
+array-read-if3 : tie.Need-array-read-if3
+array-read-if3 c = search needs
 
 returns-3 : tie.Need-returns-3
 unfolding byBsid
@@ -55,8 +61,10 @@ parse-ac3-frame-spec =
     (tie.spec
     returns
     shared-slice-read-if2
+    array-read-if2
     returns-2
     shared-slice-read-if3
+    array-read-if3
     returns-3
     shared-slice-read-bsid
     ac3-frame-requires

@@ -1,13 +1,10 @@
 -- `sync_place` meets its contract. Both loops' invariant: no head can begin at a place passed. Assumes nothing.
-use mathlib.Core.Path.{_≡_, sym, _∙_, ap}
-use mathlib.Core.Bool.{true}
-use mathlib.Core.List.{List}
-use Prim.Native.Nat.{ℕ, suc, _+_, _-_, _≤_, _<_}
+use mathlib.Core.Path.{_≡_, sym, _∙_}
+use Prim.Native.Nat.{_+_, _-_, _≤_}
 use native.Mathlib.Numerals.{add-one}
 use native.Mathlib.Omega.{arith}
-use lib.ListN.{length, getD}
+use lib.ListN.{length}
 use borrow.Author.Needs.{needs}
-use Rattle.heads.specs.Sync.{pairBegins}
 use Rattle.heads.proofs.Skip.{Silent, place-is, place-none, silent-more, silent-block}
 use Rattle.heads.proofs.sync.sync_place.Statement.{statement}
 use Rattle.heads.proofs.sync.sync_place.Tie as tie
