@@ -5,7 +5,7 @@ use mathlib.Core.Bool.{Bool, true, false, not, cond, _&&_}
 use Prim.Native.Nat.{ℕ, suc, _<_, _≤_}
 use lib.Dec.{T, eqb, ltb, leb, eqb→eq}
 use native.Mathlib.Nat.{le-of-suc-le-suc}
-use Rattle.heads.proofs.Table.{least, most}
+use Rattle.heads.proofs.Entries.{least, most}
 use borrow.Author.Tests.{lt-ltb, le-ltb, eq-eqb, ne-eqb, le-leb, lt-leb}
 use Rattle.heads.specs.Judge.{refuseIf}
 use Rattle.heads.specs.declared.info.Head.{Head}

@@ -1,7 +1,11 @@
-pub mod Table
+-- The laws by concept; a function's proof stands in the folder of its name.
+
+-- of lists, numbers and fields in general
+pub mod Entries
 pub mod Below
 pub mod Pack
 pub mod Bytes
+-- from the definitions to the code
 pub mod Grounds
 pub mod Columns
 pub mod SyncWord
@@ -11,9 +15,11 @@ pub mod A52Laws
 pub mod SyntaxLaws
 pub mod HostLaws
 pub mod Skip
-pub mod Local
-pub mod Reported
-pub mod Promise
+-- of the definitions themselves: what a reader and the layers above may want to know
+pub mod Widths
 pub mod Tables
 pub mod Cases
+pub mod Local
+pub mod Reported
 pub mod Reached
+pub mod Promise

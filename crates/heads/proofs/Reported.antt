@@ -9,7 +9,7 @@ use lib.Dec.{T, leb, eqb, leb→le}
 use lib.ListN.{length}
 use lib.Pow.{pow-pos, pow-mono}
 use borrow.Author.Tests.{ltb-false, leb-false, eqb-false}
-use Rattle.heads.proofs.Table.{both, both-left, both-right, least, most}
+use Rattle.heads.proofs.Entries.{both, both-left, both-right, least, most}
 use Rattle.heads.proofs.Below.{upTo, below}
 use Rattle.heads.specs.Bits.{number}
 use Rattle.heads.specs.Judge.{refuseIf}
@@ -206,9 +206,9 @@ eac3-good : (f : Eac3Fields) → f .frmsiz < 2048 → f .fscod < 4 → f .fscod2
 unfolding eac3Judged boundsOf
 eac3-good f hs hf h2 hn ha hl =
     let m = boundsOf Ac3 in
-    cond-good m _ _ _
+    cond-good m (eqb (f .fscod) 3) _ _
     (λ _.
-    refuse-good m _ _ _ λ r.
+    refuse-good m (eqb (f .fscod2) 3) _ _ λ r.
     let code : f .fscod2 < 3 = omega (arith, eqb-false (f .fscod2) 3 r) in
     record {
       length-in = record { above = omega arith; below = omega arith };

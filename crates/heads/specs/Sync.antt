@@ -12,16 +12,18 @@ use Rattle.heads.specs.declared.syntax.AudioSyntax.the-variants.{Ac3, Mp
 unfoldable pub pairBegins : ℕ → ℕ → ℕ → ℕ → ℕ → Bool
 pairBegins first low high p q = eqb p first && (leb low q && leb q high)
 
--- the first place whose two bytes begin so, or the last byte's place where there is none
+-- this place where the test holds, and else one more than the rest has
 abbrev passUnless : Bool → ℕ → ℕ
 passUnless true n = 0
 passUnless false n = suc n
 
+-- the first place whose two bytes begin so, or the last byte's place where there is none
 abbrev pub placeOf : ℕ → ℕ → ℕ → List ℕ → ℕ
 placeOf first low high [] = 0
 placeOf first low high (p ∷ []) = 0
 placeOf first low high (p ∷ q ∷ b) = passUnless (pairBegins first low high p q) (placeOf first low high (q ∷ b))
 
+-- the first place at which a head of that syntax can begin
 unfoldable pub syncPlace : AudioSyntax → List ℕ → ℕ
 syncPlace Ac3 b = placeOf 0x0B 0x77 0x77 b
 syncPlace MpegAudio b = placeOf 0xFF 0xF0 0xFF b

@@ -1,7 +1,7 @@
 -- `ac3_kbps` meets its contract. Assumes nothing.
 use Rattle.heads.proofs.Columns.{kbps-is, kbpsByPairs}
 use Prim.Native.Nat.{_/_}
-use Rattle.heads.proofs.Table.{most}
+use Rattle.heads.proofs.Entries.{most}
 use borrow.Author.Needs.{needs}
 use Rattle.heads.proofs.ac3.ac3_kbps.Statement.{statement}
 use Rattle.heads.proofs.ac3.ac3_kbps.Tie as tie

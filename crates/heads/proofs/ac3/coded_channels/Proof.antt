@@ -1,7 +1,7 @@
 -- `coded_channels` meets its contract. Assumes nothing.
 use native.Mathlib.Omega.{arith}
 use mathlib.Core.Path.{refl}
-use Rattle.heads.proofs.Table.{most}
+use Rattle.heads.proofs.Entries.{most}
 use Rattle.heads.specs.Ac3.{codingModes, nfchans}
 use borrow.Author.Needs.{needs}
 use Rattle.heads.proofs.ac3.coded_channels.Statement.{statement}
