@@ -150,18 +150,16 @@ pub fn parse_mpeg_audio_header(b: &[u8]) -> Head
     if sf_index == 3 {
         return Head::Refused(Refusal::ReservedCode);
     }
-    let bitrate_kbps = mpeg_kbps(id, layer_code, bitrate_index);
+    let bitrate = mpeg_kbps(id, layer_code, bitrate_index) as u32 * 1000;
     let sample_rate = mpeg_sample_rate(id, sf_index);
-    let bitrate = bitrate_kbps as u32 * 1000;
     let shape = mpeg_shape(id, layer_code, sample_rate, bitrate, padding);
     let kind = shape.kind;
-    let channels = mpeg_channels(mode);
     Head::Read(AudioFrameInfo {
         kind,
         frame_len: shape.frame_len,
         samples_per_frame: shape.samples,
         sample_rate,
-        channels,
+        channels: mpeg_channels(mode),
         bit_rate: BitRate::Coded(bitrate),
     })
 }

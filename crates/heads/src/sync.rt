@@ -50,10 +50,10 @@ pub fn sync_place(b: &[u8], first: u8, low: u8, high: u8) -> usize
     let n = b.len() - 1;
     let mut at: usize = 0;
     while n - at >= 32 {
-        let e = at + 32;
-        let f = at + 1;
-        let g = at + 33;
-        if any_begins(&b[at..e], &b[f..g], first, low, high) {
+        let end = at + 32;
+        let next = at + 1;
+        let next_end = at + 33;
+        if any_begins(&b[at..end], &b[next..next_end], first, low, high) {
             break;
         }
         at += 32;

@@ -71,14 +71,14 @@ returns-7 c = search (judged, sync-words, grounds, c .before .before .before .be
 mpeg-kbps-requires : tie.Need-mpeg-kbps-requires
 mpeg-kbps-requires c κs = omega (arith, c .before .before .before .before .before .before .before .before .before .before .before .before .before .before .before .shared-slice-known .given 2)
 
-mpeg-sample-rate-requires : tie.Need-mpeg-sample-rate-requires
-mpeg-sample-rate-requires c κs = search needs
-
 cast-bitrate : tie.Need-cast-bitrate
 cast-bitrate c = search needs
 
 mul-bitrate : tie.Need-mul-bitrate
 mul-bitrate c = search needs
+
+mpeg-sample-rate-requires : tie.Need-mpeg-sample-rate-requires
+mpeg-sample-rate-requires c κs = search needs
 
 mpeg-shape-requires : tie.Need-mpeg-shape-requires
 mpeg-shape-requires c κs = search needs
@@ -113,9 +113,9 @@ parse-mpeg-audio-header-spec =
     returns-6
     returns-7
     mpeg-kbps-requires
-    mpeg-sample-rate-requires
     cast-bitrate
     mul-bitrate
+    mpeg-sample-rate-requires
     mpeg-shape-requires
     mpeg-channels-requires
     returns-8)

@@ -33,14 +33,14 @@ loop-holds c = (omega arith, omega arith, λ k p. absurd (let no : ⊥ = omega a
 sub-loop : tie.Need-sub-loop Inv-loop μ-loop Inv-loop2 μ-loop2
 sub-loop c = omega arith
 
-add-e : tie.Need-add-e Inv-loop μ-loop Inv-loop2 μ-loop2
-add-e c = omega arith
+add-end : tie.Need-add-end Inv-loop μ-loop Inv-loop2 μ-loop2
+add-end c = omega arith
 
-add-f : tie.Need-add-f Inv-loop μ-loop Inv-loop2 μ-loop2
-add-f c = omega arith
+add-next : tie.Need-add-next Inv-loop μ-loop Inv-loop2 μ-loop2
+add-next c = omega arith
 
-add-g : tie.Need-add-g Inv-loop μ-loop Inv-loop2 μ-loop2
-add-g c = omega arith
+add-next-end : tie.Need-add-next-end Inv-loop μ-loop Inv-loop2 μ-loop2
+add-next-end c = omega arith
 
 sub-any-begins : tie.Need-sub-any-begins Inv-loop μ-loop Inv-loop2 μ-loop2
 sub-any-begins c = omega arith
@@ -126,9 +126,9 @@ sync-place-spec =
     sub-n
     loop-holds
     sub-loop
-    add-e
-    add-f
-    add-g
+    add-end
+    add-next
+    add-next-end
     sub-any-begins
     part-any-begins-start
     part-any-begins-end
