@@ -1,4 +1,5 @@
--- The promise of this layer: all that the layers above may use of a head, for the syntax as a parameter. Assumes nothing.
+-- The promise of this layer: all that the layers above may use of a head, for the syntax as a parameter. (That a slice, a joint or a part is a
+-- list of bytes: Bytes.antt, `known`, `bytes-join`, `bytes-take`, `bytes-drop`.) Assumes nothing.
 use mathlib.Core.Path.{_≡_, refl, sym, _∙_, ap, subst}
 use mathlib.Core.Bool.{Bool, true, false, not, cond}
 use mathlib.Core.List.{List, _++_}
@@ -23,6 +24,7 @@ use Rattle.heads.specs.Promise.{Unread, boundsOf, Within}
 use Rattle.heads.proofs.A52Laws.{short as a52-short, syncword-is as a52-syncword}
 use Rattle.heads.proofs.AdtsLaws.{short as adts-short, syncword-is as adts-syncword}
 use Rattle.heads.proofs.MpegLaws.{short as mpeg-short, syncword-is as mpeg-syncword}
+use Rattle.heads.proofs.Bytes.{bytes-drop}
 use Rattle.heads.proofs.Local.{a52-local, mpeg-local, adts-local, a52-grows, mpeg-grows, adts-grows}
 use Rattle.heads.proofs.Reported.{Good, a52-good, mpeg-good, adts-good}
 use Rattle.heads.proofs.Skip.{place-silent, place-room}
@@ -154,12 +156,8 @@ module _ (l : List ℕ) (byte : Bytes l) where
       ne-eqb (adtsFields l .syncword) 0xFFF (λ is. unread-twelve e (sym (adts-syncword l byte) ∙ is)) in
       unread-if _ _ _ λ _. unread-on _ _ _ (ap not none)
 
-module _ (b c : List ℕ) (byte : Bytes (b ++ c)) (k : ℕ) where
-  -- the bytes from place k on are bytes, and the first two are b's
-  dropped : Bytes (drop k (b ++ c))
-  unfolding Bytes
-  dropped i = rw (getD-drop k (b ++ c) i 0) (byte (k + i))
-
+module _ (b c : List ℕ) (k : ℕ) where
+  -- the first two bytes from place k on are b's
   first-of : suc k < length b → getD (drop k (b ++ c)) 0 0 ≡ getD b k 0
   first-of h = rw (getD-drop k (b ++ c) 0 0, add-zero) (List·getD-append b c 0 k (omega arith))
 
@@ -170,13 +168,13 @@ pub skipped : (s : AudioSyntax) (b c : List ℕ) → Bytes (b ++ c) → (k : ℕ
 unfolding headOf syncPlace
 skipped Ac3 b c byte k h =
     let room = place-room 0x0B 0x77 0x77 b k h in
-    unread-a52 (drop k (b ++ c)) (dropped b c byte k) (rw (first-of b c byte k room, second-of b c byte k room) (place-silent 0x0B 0x77 0x77 b k h))
+    unread-a52 (drop k (b ++ c)) (bytes-drop k (b ++ c) byte) (rw (first-of b c k room, second-of b c k room) (place-silent 0x0B 0x77 0x77 b k h))
 skipped MpegAudio b c byte k h =
     let room = place-room 0xFF 0xF0 0xFF b k h in
-    unread-mpeg (drop k (b ++ c)) (dropped b c byte k) (rw (first-of b c byte k room, second-of b c byte k room) (place-silent 0xFF 0xF0 0xFF b k h))
+    unread-mpeg (drop k (b ++ c)) (bytes-drop k (b ++ c) byte) (rw (first-of b c k room, second-of b c k room) (place-silent 0xFF 0xF0 0xFF b k h))
 skipped AacAdts b c byte k h =
     let room = place-room 0xFF 0xF0 0xFF b k h in
-    unread-adts (drop k (b ++ c)) (dropped b c byte k) (rw (first-of b c byte k room, second-of b c byte k room) (place-silent 0xFF 0xF0 0xFF b k h))
+    unread-adts (drop k (b ++ c)) (bytes-drop k (b ++ c) byte) (rw (first-of b c k room, second-of b c k room) (place-silent 0xFF 0xF0 0xFF b k h))
 
 -- the place itself has a byte, where there is any
 pub skipped-room : (s : AudioSyntax) (b : List ℕ) (k : ℕ) → k < syncPlace s b → suc k < length b

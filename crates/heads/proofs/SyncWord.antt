@@ -1,17 +1,10 @@
 -- The sync word from its two bytes: twelve ones in MPEG audio and ADTS, 0B77 in AC-3. Assumes nothing.
 use mathlib.Core.Path.{_≡_}
-use mathlib.Core.List.{List}
 use Prim.Native.Nat.{ℕ, _≤_, _<_, _+_, _*_, _/_}
 use native.Mathlib.Omega.{arith}
-use lib.ListN.{getD}
 use mir.Val.{Fits}
 use mir.Syntax.{w8}
-use Rattle.heads.specs.Bits.{Bytes}
-
--- the elements of a slice of bytes are bytes
-pub known : (b : List ℕ) → ((i : ℕ) → Fits w8 (getD b i 0)) → Bytes b
-unfolding Bytes
-known b h i = h i .fits
+use Rattle.heads.proofs.Bytes.{known}
 
 pub twelve-first : (p q : ℕ) → (p ≡ 255 → ⊥) → Fits w8 q → p * 16 + q / 16 ≡ 4095 → ⊥
 twelve-first p q h f e = h (omega arith)

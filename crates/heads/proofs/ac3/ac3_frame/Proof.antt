@@ -1,7 +1,7 @@
 -- `ac3_frame` meets its contract. Assumes nothing.
 use native.Mathlib.Omega.{arith}
 use Rattle.heads.proofs.Grounds.{grounds}
-use Rattle.heads.proofs.SyncWord.{known}
+use Rattle.heads.proofs.Bytes.{known}
 use Rattle.heads.proofs.A52Laws.{judged, reported}
 use Rattle.heads.specs.Ac3.{ac3Judged}
 use borrow.Author.Needs.{needs}

@@ -1,7 +1,7 @@
 -- `eac3_frame` meets its contract. Assumes nothing.
 use native.Mathlib.Omega.{arith}
 use Rattle.heads.proofs.Grounds.{grounds}
-use Rattle.heads.proofs.SyncWord.{known}
+use Rattle.heads.proofs.Bytes.{known}
 use Rattle.heads.proofs.A52Laws.{halved, whole, told}
 use borrow.Author.Needs.{needs}
 use Rattle.heads.proofs.ac3.eac3_frame.Statement.{statement}
