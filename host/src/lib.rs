@@ -1,9 +1,11 @@
-//! What the differential runner, the benchmark and the list maker share.
+//! What the programs of the host side share.
 
 pub mod cases;
 pub mod heads;
+pub mod line;
 pub mod numbers;
 pub mod oracle;
 pub mod random;
 pub mod reference;
 pub mod samples;
+pub mod skip;

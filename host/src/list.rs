@@ -1,23 +1,17 @@
-//! Writes the stored list: heads and durations, one a line, and beside it the answers that they
-//! must get. A Rattle program replays it where no Rust is at hand.
+//! Writes the stored list: heads, skips and durations, one a line, and beside it the answers that
+//! they must get. A Rattle program replays it where no Rust is at hand.
 //!
 //!   list INPUTS ANSWERS
 //!
-//! An input is `CODE HEX..` or `d SAMPLES RATE`. Its answer is the six numbers of the head,
-//! `refused NUMBER`, or the duration.
+//! An input is `CODE HEX..`, `s CODE HEX..` or `d SAMPLES RATE`. Its answer is the six numbers of the
+//! head, the place, the duration, or `refused NUMBER`.
 
 use host::cases;
+use host::line::Line::{self, Duration, Head, Skip};
+use host::line::MOST_BYTES;
 use host::random::Random;
 use host::samples::{self, Ac3, Adts, Bytes, Eac3, Mpeg, KINDS};
-use host::{oracle, reference};
 use std::process::ExitCode;
-
-enum Line {
-    Head(u32, Vec<u8>),
-    Duration(u32, u32),
-}
-
-use Line::{Duration, Head};
 
 fn main() -> ExitCode {
     let arguments: Vec<String> = std::env::args().skip(1).collect();
@@ -26,7 +20,7 @@ fn main() -> ExitCode {
         return ExitCode::from(2);
     };
     let lines = all_lines();
-    let written = std::fs::write(inputs, text(&lines, input))
+    let written = std::fs::write(inputs, text(&lines, Line::text))
         .and_then(|()| std::fs::write(answers, text(&lines, answer)));
     match written {
         Ok(()) => ExitCode::SUCCESS,
@@ -37,28 +31,17 @@ fn main() -> ExitCode {
     }
 }
 
-fn text(lines: &[Line], form: fn(&Line) -> String) -> String {
-    lines.iter().map(|line| form(line) + "\n").collect()
+/// All lines in that form, each closed by a line feed.
+fn text(lines: &[Line], form: fn(&Line) -> Vec<u8>) -> Vec<u8> {
+    lines.iter().flat_map(|line| [form(line), b"\n".to_vec()].concat()).collect()
 }
 
-fn input(line: &Line) -> String {
-    match line {
-        Head(code, head) => {
-            let hex: String = head.iter().map(|byte| format!(" {byte:02X}")).collect();
-            format!("{code}{hex}")
+fn answer(line: &Line) -> Vec<u8> {
+    match line.answer() {
+        Ok(answer) => answer.into_bytes(),
+        Err(contradiction) => {
+            panic!("{}: {contradiction}", String::from_utf8_lossy(&line.text()))
         }
-        Duration(samples, rate) => format!("d {samples} {rate}"),
-    }
-}
-
-fn answer(line: &Line) -> String {
-    match line {
-        Head(code, head) => match reference::answer(*code, head) {
-            Ok(Ok(six)) => six.map(|number| number.to_string()).join(" "),
-            Ok(Err(number)) => format!("refused {number}"),
-            Err(contradiction) => panic!("{}: {contradiction}", input(line)),
-        },
-        Duration(samples, rate) => oracle::duration_90k(*samples, *rate).to_string(),
     }
 }
 
@@ -77,6 +60,9 @@ fn all_lines() -> Vec<Line> {
     lines.extend(cut_heads());
     lines.extend(damaged_heads());
     lines.extend(DURATIONS.map(|(samples, rate)| Duration(samples, rate)));
+    lines.extend(small_skips());
+    lines.extend(skips_to_a_sync_word());
+    lines.extend(skips_to_the_last_byte());
     lines
 }
 
@@ -223,3 +209,58 @@ const DURATIONS: [(u32, u32); 34] = [
     (47_722, 1), (u32::MAX, 0), (u32::MAX, 1), (u32::MAX, 2), (u32::MAX, 1 << 31),
     (u32::MAX, u32::MAX), (1 << 31, u32::MAX),
 ];
+
+/// An unknown code, few bytes, runs, and sync words of the other syntaxes.
+#[rustfmt::skip]
+fn small_skips() -> Vec<Line> {
+    let skips: [(u32, &[u8]); 25] = [
+        (3, &[]), (3, &[0xFF, 0xF1]), (u32::MAX, &[0x0B, 0x77]),
+        (0, &[]), (1, &[]), (2, &[]),
+        (0, &[0x0B]), (0, &[0x77]), (1, &[0xFF]), (2, &[0xFF]),
+        (0, &[0x0B, 0x76]), (0, &[0x0B, 0x78]), (0, &[0x0A, 0x77]), (0, &[0x77, 0x0B]),
+        (0, &[0x0B, 0x0B, 0x77]), (0, &[0xFF, 0xF1, 0x50, 0x80]),
+        (1, &[0xFE, 0xFF]), (2, &[0xFF, 0xEF, 0xFF, 0xF0]), (1, &[0x0B, 0x77, 0x00]),
+        (0, &[0xFF; MOST_BYTES]), (1, &[0xFF; MOST_BYTES]), (2, &[0xFF; 2]),
+        (0, &[0x0B; MOST_BYTES]), (1, &[0x00; MOST_BYTES]), (2, &[0xF0; MOST_BYTES]),
+    ];
+    skips.map(|(code, bytes)| Skip(code, bytes.to_vec())).into()
+}
+
+/// A sync word at each of many places, about the ends of blocks of 32 above all. It ends the line, or
+/// as many bytes as a line may give stand behind it, further sync words among them.
+fn skips_to_a_sync_word() -> Vec<Line> {
+    let places = [0, 1, 2, 15, 30, 31, 32, 33, 34, 62, 63, 64, 65, 95, 96, 97, 125, 126];
+    let mut lines = Vec::new();
+    for (n, place) in places.into_iter().enumerate() {
+        for (turn, len) in [(n, place + 2), (n + 1, MOST_BYTES)] {
+            let code = turn as u32 % 3;
+            let mut bytes = without_sync_word(code, place);
+            let sync_word = if code == 0 { [0x0B, 0x77] } else { [0xFF, 0xF0 + (n % 16) as u8] };
+            bytes.extend(sync_word.iter().cycle().take(len - place));
+            lines.push(Skip(code, bytes));
+        }
+    }
+    lines
+}
+
+/// No sync word, but the first half of one at the end.
+fn skips_to_the_last_byte() -> Vec<Line> {
+    let one = |(n, len): (usize, usize)| {
+        let code = n as u32 % 3;
+        let mut bytes = without_sync_word(code, len - 1);
+        bytes.push(if code == 0 { 0x0B } else { 0xFF });
+        Skip(code, bytes)
+    };
+    [2, 31, 32, 33, 34, 64, 65, 66, 97, 127, 128, 128].into_iter().enumerate().map(one).collect()
+}
+
+/// Bytes that have halves of sync words and whole ones of the other syntaxes, and none of `code`;
+/// nor do they with the first byte of one behind them.
+fn without_sync_word(code: u32, len: usize) -> Vec<u8> {
+    // From the last byte backwards.
+    let cycle = match code {
+        0 => [0x0B, 0xF0, 0xFF, 0x77, 0x78],
+        _ => [0xEF, 0xFF, 0x77, 0x0B, 0xF0],
+    };
+    (0..len).rev().map(|k| cycle[k % cycle.len()]).collect()
+}

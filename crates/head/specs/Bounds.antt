@@ -6,7 +6,7 @@ use Rattle.head.specs.declared.session.Session.{Session}
 
 -- the line lies within its array
 abbrev pub Within : Line → Type 0
-Within line = line .len ≤ 256
+Within line = line .len ≤ 512
 
 -- the block has room for one answer more
 abbrev pub HasRoom : Output → Type 0

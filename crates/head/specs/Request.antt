@@ -1,15 +1,18 @@
--- The bounds that a parsed line keeps: a head's bytes fit the array that is lent for them, and a number ends within its line.
+-- The bounds that a parsed line keeps: the bytes that it gives fit the array that is lent for them, and a number ends within its line.
 use Prim.Native.Nat.{ℕ}
 use Rattle.head.specs.declared.request.Request.{Request}
-use Rattle.head.specs.declared.request.Request.the-variants.{Head, Duration, Malformed}
+use Rattle.head.specs.declared.request.Request.the-variants.{Head, Skip, Duration, Malformed}
 use Rattle.head.specs.declared.request.Number.{Number}
 use Rattle.head.specs.declared.request.Number.the-variants.{Value, NoNumber}
-use Rattle.head.specs.declared.request.HeadBytes.{HeadBytes}
-use Rattle.head.specs.declared.request.HeadBytes.the-variants.{Count, NoBytes}
+use Rattle.head.specs.declared.request.Bytes.{Bytes}
+use Rattle.head.specs.declared.request.Bytes.the-variants.{Count, NoBytes}
+use Rattle.head.specs.declared.request.Coded.{Coded}
+use Rattle.head.specs.declared.request.Coded.the-variants.{Both, NotCoded}
 
--- how many bytes a request asks to read as a head
+-- how many bytes a request asks about
 abbrev pub countOf : Request → ℕ
 countOf (Head code count) = count
+countOf (Skip code count) = count
 countOf (Duration samples rate) = 0
 countOf Malformed = 0
 
@@ -19,6 +22,11 @@ placeOf (Value value next) = next
 placeOf NoNumber = 0
 
 -- how many bytes the rest of a line gives
-abbrev pub bytesOf : HeadBytes → ℕ
+abbrev pub bytesOf : Bytes → ℕ
 bytesOf (Count count) = count
 bytesOf NoBytes = 0
+
+-- how many bytes stand behind a syntax code
+abbrev pub codedOf : Coded → ℕ
+codedOf (Both code count) = count
+codedOf NotCoded = 0

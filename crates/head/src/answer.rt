@@ -1,9 +1,11 @@
 // The answer to one line, closed by a line feed.
 use crate::output::BLOCK_LEN;
 use crate::output::Output;
-use crate::request::HEAD_MAX;
+use crate::request::BYTES_MAX;
 use crate::request::Request;
 use crate::request::parse_request;
+use heads::AudioSyntax;
+use heads::CodedSyntax;
 ghost use mathlib.Core.Path.{_≡_};
 ghost use Prim.Native.Nat.{_+_, _≤_};
 ghost use Rattle.head.specs.Bounds.{HasRoom};
@@ -18,9 +20,10 @@ pub fn put_answer(out: Output, block: &mut [u8; BLOCK_LEN], line: &[u8]) -> Outp
     requires { ⌜ HasRoom out ⌝ }
     ensures { λ r. ⌜ r .len ≤ 8192 ⌝ }
 {
-    let mut head = [0u8; HEAD_MAX];
-    match parse_request(line, &mut head) {
-        Request::Head { code, count } => put_head(out, block, code, &head, count),
+    let mut bytes = [0u8; BYTES_MAX];
+    match parse_request(line, &mut bytes) {
+        Request::Head { code, count } => put_head(out, block, code, &bytes, count),
+        Request::Skip { code, count } => put_skip(out, block, code, &bytes, count),
         Request::Duration { samples, rate } => put_duration(out, block, samples, rate),
         Request::Malformed => out.put_byte(block, b'?').put_byte(block, b'\n'),
     }
@@ -39,18 +42,46 @@ fn put_head(
     out: Output,
     block: &mut [u8; BLOCK_LEN],
     code: u32,
-    head: &[u8; HEAD_MAX],
+    bytes: &[u8; BYTES_MAX],
     count: usize,
 ) -> Output
-    requires { ⌜ HasRoom out × (count ≤ 64) ⌝ }
+    requires { ⌜ HasRoom out × (count ≤ 128) ⌝ }
     ensures { λ r. ⌜ r .len ≤ 8192 ⌝ }
 {
     let mut info = [0u8; 24];
-    let bytes: &[u8] = head;
-    let number = heads::audio_frame_head(code, &bytes[0..count], &mut info);
+    let head: &[u8] = bytes;
+    let number = heads::audio_frame_head(code, &head[0..count], &mut info);
     if number == 0 {
         return put_info(out, block, &info);
     }
+    put_refusal(out, block, number)
+}
+
+// The first place of the first count bytes at which a head can begin. At most 128 bytes have few enough places for 32 bits.
+fn put_skip(
+    out: Output,
+    block: &mut [u8; BLOCK_LEN],
+    code: u32,
+    bytes: &[u8; BYTES_MAX],
+    count: usize,
+) -> Output
+    requires { ⌜ HasRoom out × (count ≤ 128) ⌝ }
+    ensures { λ r. ⌜ r .len ≤ 8192 ⌝ }
+{
+    let searched: &[u8] = bytes;
+    match AudioSyntax::from_code(code) {
+        CodedSyntax::Known(syntax) => {
+            let place = syntax.skip_to_sync(&searched[0..count]);
+            out.put_decimal(block, place as u32).put_byte(block, b'\n')
+        }
+        CodedSyntax::Refused(refusal) => put_refusal(out, block, refusal.number()),
+    }
+}
+
+fn put_refusal(out: Output, block: &mut [u8; BLOCK_LEN], number: u32) -> Output
+    requires { ⌜ HasRoom out ⌝ }
+    ensures { λ r. ⌜ r .len ≤ 8192 ⌝ }
+{
     out.put_text(block, b"refused ")
         .put_decimal(block, number)
         .put_byte(block, b'\n')

@@ -1,8 +1,8 @@
 // A line as it is collected, byte by byte, in a lent array.
 ghost use Rattle.head.specs.Bounds.{Within};
 
-// How many bytes of a line are kept. No well formed line has more than 202, so what is left of a line that is cut is malformed too.
-pub const LINE_MAX: usize = 256;
+// How many bytes of a line are kept. No well formed line has more than 396, so what is left of a line that is cut is malformed too.
+pub const LINE_MAX: usize = 512;
 
 pub struct Line {
     // How many bytes stand at the start of the array.

@@ -1,18 +1,20 @@
-// What a line of input asks for. A head is its syntax code and its bytes, as `2 FF F1 50 80 00 E0 00`; a duration is `d 1024 44100`.
+// What a line of input asks for. A head is its syntax code and its bytes, as `2 FF F1 50 80 00 E0 00`; a skip to the first place at which a
+// head can begin is `s 2 00 FF F1`; a duration is `d 1024 44100`.
 ghost use Prim.Native.Nat.{_≤_};
 ghost use lib.ListN.{length};
-ghost use Rattle.head.specs.Request.{countOf, placeOf, bytesOf};
+ghost use Rattle.head.specs.Request.{countOf, placeOf, bytesOf, codedOf};
 
-// The most bytes of a head that a line may give: well above what any reader looks at.
-pub const HEAD_MAX: usize = 64;
+// The most bytes that a line may give: well above what any reader looks at, and several of the blocks by which the library skips places.
+pub const BYTES_MAX: usize = 128;
 
 const DIGITS_MAX: usize = 10;
 
 const NUMBER_MAX: u64 = 4294967295;
 
+// The bytes of a head or a skip are the first count of the lent array.
 pub enum Request {
-    // The head is the first count bytes of the lent array.
     Head { code: u32, count: usize },
+    Skip { code: u32, count: usize },
     Duration { samples: u32, rate: u32 },
     Malformed,
 }
@@ -23,10 +25,16 @@ enum Number {
     NoNumber,
 }
 
-// The bytes of a head, so many at the start of the lent array.
-enum HeadBytes {
+// The bytes that a line gives, so many at the start of the lent array.
+enum Bytes {
     Count(usize),
     NoBytes,
+}
+
+// What a head and a skip are asked by: a syntax code and the bytes behind it.
+enum Coded {
+    Both { code: u32, count: usize },
+    NotCoded,
 }
 
 enum Octet {
@@ -34,30 +42,56 @@ enum Octet {
     NoByte,
 }
 
-pub fn parse_request(line: &[u8], head: &mut [u8; HEAD_MAX]) -> Request
-    ensures { λ r. ⌜ countOf r ≤ 64 ⌝ }
+pub fn parse_request(line: &[u8], bytes: &mut [u8; BYTES_MAX]) -> Request
+    ensures { λ r. ⌜ countOf r ≤ 128 ⌝ }
 {
     if stands_at(line, 0, b'd') {
         return parse_duration(line);
     }
-    parse_head(line, head)
+    if stands_at(line, 0, b's') {
+        return parse_skip(line, bytes);
+    }
+    parse_head(line, bytes)
 }
 
-fn parse_head(line: &[u8], head: &mut [u8; HEAD_MAX]) -> Request
-    ensures { λ r. ⌜ countOf r ≤ 64 ⌝ }
+fn parse_head(line: &[u8], bytes: &mut [u8; BYTES_MAX]) -> Request
+    ensures { λ r. ⌜ countOf r ≤ 128 ⌝ }
 {
-    let Number::Value { value: code, next } = parse_number(line, 0) else {
-        return Request::Malformed;
-    };
-    let HeadBytes::Count(count) = parse_head_bytes(line, next, head) else {
+    let Coded::Both { code, count } = parse_coded(line, 0, bytes) else {
         return Request::Malformed;
     };
     Request::Head { code, count }
 }
 
+// The letter s, a space, and what a head line has.
+fn parse_skip(line: &[u8], bytes: &mut [u8; BYTES_MAX]) -> Request
+    ensures { λ r. ⌜ countOf r ≤ 128 ⌝ }
+{
+    if !stands_at(line, 1, b' ') {
+        return Request::Malformed;
+    }
+    let Coded::Both { code, count } = parse_coded(line, 2, bytes) else {
+        return Request::Malformed;
+    };
+    Request::Skip { code, count }
+}
+
+// The rest of a line from place at on: a syntax code, and the bytes.
+fn parse_coded(line: &[u8], at: usize, bytes: &mut [u8; BYTES_MAX]) -> Coded
+    ensures { λ r. ⌜ codedOf r ≤ 128 ⌝ }
+{
+    let Number::Value { value: code, next } = parse_number(line, at) else {
+        return Coded::NotCoded;
+    };
+    let Bytes::Count(count) = parse_bytes(line, next, bytes) else {
+        return Coded::NotCoded;
+    };
+    Coded::Both { code, count }
+}
+
 // The letter d, a space, the samples, a space, the rate.
 fn parse_duration(line: &[u8]) -> Request
-    ensures { λ r. ⌜ countOf r ≤ 64 ⌝ }
+    ensures { λ r. ⌜ countOf r ≤ 128 ⌝ }
 {
     if !stands_at(line, 1, b' ') {
         return Request::Malformed;
@@ -77,7 +111,7 @@ fn parse_duration(line: &[u8]) -> Request
 
 // The rate ends the line.
 fn parse_rate(line: &[u8], at: usize, samples: u32) -> Request
-    ensures { λ r. ⌜ countOf r ≤ 64 ⌝ }
+    ensures { λ r. ⌜ countOf r ≤ 128 ⌝ }
 {
     let Number::Value { value: rate, next } = parse_number(line, at) else {
         return Request::Malformed;
@@ -122,26 +156,26 @@ fn parse_number(line: &[u8], at: usize) -> Number
 }
 
 // The rest of a line from place at on: for each byte a space and two hexadecimal digits.
-fn parse_head_bytes(line: &[u8], at: usize, head: &mut [u8; HEAD_MAX]) -> HeadBytes
+fn parse_bytes(line: &[u8], at: usize, bytes: &mut [u8; BYTES_MAX]) -> Bytes
     requires { ⌜ at ≤ length (now line) ⌝ }
-    ensures { λ r. ⌜ bytesOf r ≤ 64 ⌝ }
+    ensures { λ r. ⌜ bytesOf r ≤ 128 ⌝ }
 {
     let rest = line.len() - at;
     let count = rest / 3;
     if rest % 3 != 0 {
-        return HeadBytes::NoBytes;
+        return Bytes::NoBytes;
     }
-    if count > HEAD_MAX {
-        return HeadBytes::NoBytes;
+    if count > BYTES_MAX {
+        return Bytes::NoBytes;
     }
     for k in 0..count {
         let i = at + 3 * k;
         let Octet::Byte(b) = parse_octet(line[i], line[i + 1], line[i + 2]) else {
-            return HeadBytes::NoBytes;
+            return Bytes::NoBytes;
         };
-        head[k] = b;
+        bytes[k] = b;
     }
-    HeadBytes::Count(count)
+    Bytes::Count(count)
 }
 
 fn parse_octet(space: u8, high: u8, low: u8) -> Octet {

@@ -176,12 +176,19 @@ skipped AacAdts b c byte k h =
     let room = place-room 0xFF 0xF0 0xFF b k h in
     unread-adts (drop k (b ++ c)) (bytes-drop k (b ++ c) byte) (rw (first-of b c k room, second-of b c k room) (place-silent 0xFF 0xF0 0xFF b k h))
 
--- the place itself has a byte, where there is any
+-- a place that is passed has a byte after it, so the place is within b
 pub skipped-room : (s : AudioSyntax) (b : List ℕ) (k : ℕ) → k < syncPlace s b → suc k < length b
 unfolding syncPlace
 skipped-room Ac3 b k h = place-room 0x0B 0x77 0x77 b k h
 skipped-room MpegAudio b k h = place-room 0xFF 0xF0 0xFF b k h
 skipped-room AacAdts b k h = place-room 0xFF 0xF0 0xFF b k h
+
+pub skipped-most : (s : AudioSyntax) (b : List ℕ) → syncPlace s b ≤ length b
+skipped-most s b = go (ltb (length b) (syncPlace s b)) refl
+  where
+    go : (t : Bool) → ltb (length b) (syncPlace s b) ≡ t → syncPlace s b ≤ length b
+    go true e = absurd (let past = skipped-room s b (length b) (ltb-true (length b) (syncPlace s b) e) in let no : ⊥ = omega arith in no)
+    go false e = ltb-false (length b) (syncPlace s b) e
 
 -- the header need is 4 to 8 bytes, and no head reads from fewer than 4
 pub need-least : (s : AudioSyntax) → 4 ≤ needOf s

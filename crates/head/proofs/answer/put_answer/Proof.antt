@@ -1,4 +1,4 @@
--- `put_answer` is safe and leaves the output within its block: a head that was asked for has at most 64 bytes.
+-- `put_answer` is safe and leaves the output within its block: a head or a skip that was asked for has at most 128 bytes.
 use mathlib.Core.Path.{ap}
 use native.Mathlib.Omega.{arith}
 use Rattle.head.specs.Request.{countOf}
@@ -14,6 +14,12 @@ enum-known-code c = search needs
 
 put-head-requires : tie.Need-put-head-requires
 put-head-requires c κs = omega (arith, ap countOf (c .before .before .before .code .given .1))
+
+enum-known-code-2 : tie.Need-enum-known-code-2
+enum-known-code-2 c = search needs
+
+put-skip-requires : tie.Need-put-skip-requires
+put-skip-requires c κs = omega (arith, ap countOf (c .before .before .before .code2 .given .1))
 
 enum-known-samples : tie.Need-enum-known-samples
 enum-known-samples c = search needs
@@ -39,6 +45,9 @@ returns-2 c = search needs
 returns-3 : tie.Need-returns-3
 returns-3 c = search needs
 
+returns-4 : tie.Need-returns-4
+returns-4 c = search needs
+
 pub put-answer-spec : {M : Type 1} → statement M
 put-answer-spec =
     tie.close
@@ -46,6 +55,8 @@ put-answer-spec =
     parse-request-requires
     enum-known-code
     put-head-requires
+    enum-known-code-2
+    put-skip-requires
     enum-known-samples
     put-duration-requires
     enum-told
@@ -53,4 +64,5 @@ put-answer-spec =
     put-byte-requires-2
     returns
     returns-2
-    returns-3)
+    returns-3
+    returns-4)

@@ -1,13 +1,13 @@
--- `parse_head` is safe, and a head that it answers has at most 64 bytes.
+-- `parse_head` is safe, and a head that it answers has at most 128 bytes.
 use mathlib.Core.Path.{ap}
 use native.Mathlib.Omega.{arith}
-use Rattle.head.specs.Request.{placeOf, bytesOf}
+use Rattle.head.specs.Request.{codedOf}
 use borrow.Author.Needs.{needs}
 use Rattle.head.proofs.request.parse_head.Statement.{statement}
 use Rattle.head.proofs.request.parse_head.Tie as tie
 
-parse-number-requires : tie.Need-parse-number-requires
-parse-number-requires c κs = search needs
+parse-coded-requires : tie.Need-parse-coded-requires
+parse-coded-requires c κs = search needs
 
 enum-known-code : tie.Need-enum-known-code
 enum-known-code c = search needs
@@ -18,31 +18,9 @@ enum-told c = search needs
 returns : tie.Need-returns
 returns c = search needs
 
-parse-head-bytes-requires : tie.Need-parse-head-bytes-requires
-parse-head-bytes-requires c κs = omega (arith, ap placeOf (c .before .before .code .given .1))
-
-enum-known-count : tie.Need-enum-known-count
-enum-known-count c = search needs
-
-enum-told-2 : tie.Need-enum-told-2
-enum-told-2 c = search needs
-
 returns-2 : tie.Need-returns-2
-returns-2 c = search needs
-
-returns-3 : tie.Need-returns-3
-returns-3 c = omega (arith, ap bytesOf (c .before .count .given .1))
+returns-2 c = omega (arith, ap codedOf (c .before .code .given .1))
 
 pub parse-head-spec : {M : Type 1} → statement M
 parse-head-spec =
-    tie.close
-    (tie.spec
-    parse-number-requires
-    enum-known-code
-    enum-told
-    returns
-    parse-head-bytes-requires
-    enum-known-count
-    enum-told-2
-    returns-2
-    returns-3)
+    tie.close (tie.spec parse-coded-requires enum-known-code enum-told returns returns-2)

@@ -1,14 +1,14 @@
--- `parse_head_bytes` is safe, ends, and counts at most 64 bytes.
+-- `parse_bytes` is safe, ends, and counts at most 128 bytes.
 use borrow.Author.Needs.{needs}
 use Prim.Native.Nat.{_≤_, _-_}
-use Rattle.head.proofs.request.parse_head_bytes.Statement.{statement}
-use Rattle.head.proofs.request.parse_head_bytes.Tie as tie
+use Rattle.head.proofs.request.parse_bytes.Statement.{statement}
+use Rattle.head.proofs.request.parse_bytes.Tie as tie
 
 abbrev Inv-loop : tie.InvT-loop
-Inv-loop line at head₀ rest count k₀ head k = k ≤ count
+Inv-loop line at bytes₀ rest count k₀ bytes k = k ≤ count
 
 abbrev μ-loop : tie.MeasureT-loop
-μ-loop line at head₀ rest count k₀ head k = count - k
+μ-loop line at bytes₀ rest count k₀ bytes k = count - k
 
 sub-rest : tie.Need-sub-rest Inv-loop μ-loop
 sub-rest c = search needs
@@ -55,8 +55,8 @@ enum-told c = search needs
 returns-3 : tie.Need-returns-3 Inv-loop μ-loop
 returns-3 c = search needs
 
-element-write-head : tie.Need-element-write-head Inv-loop μ-loop
-element-write-head c = search needs
+element-write-bytes : tie.Need-element-write-bytes Inv-loop μ-loop
+element-write-bytes c = search needs
 
 add-k : tie.Need-add-k Inv-loop μ-loop
 add-k c = search needs
@@ -70,8 +70,8 @@ loop-again c = search needs
 returns-4 : tie.Need-returns-4 Inv-loop μ-loop
 returns-4 c = search needs
 
-pub parse-head-bytes-spec : {M : Type 1} → statement M
-parse-head-bytes-spec =
+pub parse-bytes-spec : {M : Type 1} → statement M
+parse-bytes-spec =
     tie.close
     (tie.spec
     Inv-loop
@@ -91,7 +91,7 @@ parse-head-bytes-spec =
     enum-known-b
     enum-told
     returns-3
-    element-write-head
+    element-write-bytes
     add-k
     loop-less
     loop-again
