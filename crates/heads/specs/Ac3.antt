@@ -84,7 +84,7 @@ pub record FrameSize : Type 0 where
 abbrev row : ℕ → ℕ → ℕ → ℕ → FrameSize
 row k a b c = record { kbps = k; words32 = a; words44 = b; words48 = c }
 
--- Table 5.18, as it is printed: a row for each frmsizecod from 0
+-- Table 5.18 by rows, one for each frmsizecod from 0
 abbrev pub frameSizes : List FrameSize
 frameSizes =
     row 32 96 69 64
