@@ -1,0 +1,24 @@
+-- The laws by concept.
+
+-- of lists and tests in general
+pub mod Lists
+-- the search, and places in a list of frames
+pub mod Cutting
+pub mod Places
+pub mod Runs
+-- whole frames are cut in one way only
+pub mod Unique
+-- where the bytes go
+pub mod Account
+pub mod Laws
+-- the stamps: the demand's rule frame by frame, the stamping rule, and one push
+pub mod Marks
+pub mod Rule
+pub mod Stamping
+-- one call, and a list of them
+pub mod Calls
+pub mod Main
+-- the demand's rule by P and n, the theorem, and that its premise can be met in each syntax
+pub mod Literal
+pub mod Demand3
+pub mod Instances

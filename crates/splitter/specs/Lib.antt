@@ -1,0 +1,7 @@
+-- The definitions that the contracts cite, in the order in which they build on each other.
+pub mod Cut
+pub mod Stamp
+pub mod Answer
+pub mod Push
+pub mod Flush
+pub mod Demand

@@ -1,0 +1,43 @@
+// What the calls answer.
+use crate::state::AudioFrameSplitter;
+
+// Why a call is turned down. The numbers are document 01's.
+pub enum SplitterRefusal {
+    // 7: no syntax has the code.
+    SyntaxCode,
+    // 8: a state that no call leaves behind: pending over 8190, or an anchor out of bounds.
+    State,
+    // 9: a payload over 65535 bytes.
+    PayloadLength,
+    // 10: a timestamp outside -2^62 .. 2^62.
+    Timestamp,
+    // 11: too many frames since the anchor, or too many bytes discarded.
+    Count,
+    // 12: a lent buffer too short.
+    Buffer,
+}
+
+// How many rows and output bytes a call wrote.
+pub struct Written {
+    pub rows: usize,
+    pub bytes: usize,
+}
+
+pub enum PushAnswer {
+    Refused(SplitterRefusal),
+    // The payload does not begin with a head, and the splitter has never seen one: nothing is kept.
+    NotTaken,
+    Taken(Written),
+}
+
+pub enum FlushAnswer {
+    Refused(SplitterRefusal),
+    // Nothing is pending whose head reads.
+    NoFrame,
+    Frame(Written),
+}
+
+pub enum NewSplitter {
+    Refused(SplitterRefusal),
+    Made(AudioFrameSplitter),
+}

@@ -1,0 +1,16 @@
+// The splitter: cuts the payloads of one elementary stream into frames, wherever the payloads cut the frames, and stamps each frame
+// with its presentation time. Of heads it uses what crate `heads` promises, and nothing else.
+mod answer;
+mod state;
+mod timing;
+
+pub use answer::FlushAnswer;
+pub use answer::NewSplitter;
+pub use answer::PushAnswer;
+pub use answer::SplitterRefusal;
+pub use answer::Written;
+pub use state::AudioFrameSplitter;
+pub use timing::Anchor;
+pub use timing::Anchored;
+pub use timing::Pts;
+pub use timing::Timing;
