@@ -1,5 +1,7 @@
 //! What the programs of the host side share.
 
+pub extern crate audio_frame;
+
 pub mod cases;
 pub mod heads;
 pub mod line;

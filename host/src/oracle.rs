@@ -1,6 +1,7 @@
 //! The answers of the Rust module (host/oracle/audio_frame.rs, unchanged) as plain numbers.
 
-use audio_frame::{AudioFrameInfo, AudioFrameKind, AudioSyntax};
+// By `super`: host/selftest-splitter compiles this file beside wrong texts of the module.
+use super::audio_frame::{parse_adts_header, AudioFrameInfo, AudioFrameKind, AudioSyntax};
 
 /// The Rust's reader for a syntax code. A code above 2 has none there.
 #[inline]
@@ -23,7 +24,7 @@ pub fn read(code: u32, head: &[u8]) -> Option<[u32; 6]> {
 pub fn duration_90k(samples: u32, rate: u32) -> u32 {
     // The record can only be made by reading a head; its fields may then be set.
     let adts = [0xFF, 0xF1, 0x50, 0x80, 0x00, 0xE0, 0x00];
-    let mut info = audio_frame::parse_adts_header(&adts).expect("document 01's frame F reads");
+    let mut info = parse_adts_header(&adts).expect("document 01's frame F reads");
     info.samples_per_frame = samples;
     info.sample_rate = rate;
     info.duration_90k()

@@ -18,7 +18,6 @@ pub mod Skip
 -- of the definitions themselves: what a reader and the layers above may want to know
 pub mod Widths
 pub mod Tables
-pub mod Cases
 pub mod Local
 pub mod Reported
 pub mod Reached

@@ -12,4 +12,3 @@ pub mod Sync
 pub mod Promise
 pub mod Duration
 pub mod Host
-pub mod Cases

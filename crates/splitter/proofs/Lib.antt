@@ -22,3 +22,13 @@ pub mod Main
 pub mod Literal
 pub mod Demand3
 pub mod Instances
+-- document 01's starred cases
+pub mod Cases
+-- the code: its buffers, its clock, and a push under way
+pub mod Buffers
+pub mod Heads
+pub mod Clocks
+pub mod Flushes
+pub mod Walking
+pub mod Settling
+pub mod Entering

@@ -4,4 +4,6 @@ pub mod Stamp
 pub mod Answer
 pub mod Push
 pub mod Flush
+pub mod Steps
 pub mod Demand
+pub mod Cases

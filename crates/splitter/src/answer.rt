@@ -1,5 +1,7 @@
 // What the calls answer.
 use crate::state::AudioFrameSplitter;
+ghost use mathlib.Core.Path.{_≡_};
+ghost use Rattle.splitter.specs.Answer.{refusalNumber};
 
 // Why a call is turned down. The numbers are document 01's.
 pub enum SplitterRefusal {
@@ -30,6 +32,12 @@ pub enum PushAnswer {
     Taken(Written),
 }
 
+// The answer of a push, and the state after it.
+pub struct Pushed {
+    pub answer: PushAnswer,
+    pub splitter: AudioFrameSplitter,
+}
+
 pub enum FlushAnswer {
     Refused(SplitterRefusal),
     // Nothing is pending whose head reads.
@@ -37,7 +45,28 @@ pub enum FlushAnswer {
     Frame(Written),
 }
 
+// The answer of a flush, and the state after it.
+pub struct Flushed {
+    pub answer: FlushAnswer,
+    pub splitter: AudioFrameSplitter,
+}
+
 pub enum NewSplitter {
     Refused(SplitterRefusal),
     Made(AudioFrameSplitter),
+}
+
+impl SplitterRefusal {
+    pub fn number(self) -> u32
+        ensures { λ r. ⌜ r ≡ refusalNumber self ⌝ }
+    {
+        match self {
+            SplitterRefusal::SyntaxCode => 7,
+            SplitterRefusal::State => 8,
+            SplitterRefusal::PayloadLength => 9,
+            SplitterRefusal::Timestamp => 10,
+            SplitterRefusal::Count => 11,
+            SplitterRefusal::Buffer => 12,
+        }
+    }
 }

@@ -1,5 +1,13 @@
-// The splitter's state. It goes into each call by value and is handed back by it.
+// The splitter's state, and what the numbers 8 to 12 ask of it. It goes into each call by value and is handed back by it.
+use crate::answer::SplitterRefusal;
+use crate::timing::Anchored;
+use crate::timing::Pts;
 use crate::timing::Timing;
+ghost use mathlib.Core.Path.{_≡_};
+ghost use Prim.Native.Nat.{_≤_};
+ghost use Rattle.splitter.specs.Stamp.{far, farPts, badAnchor, manySince};
+ghost use Rattle.splitter.specs.Push.{badState, badCount, tightOf, refusalOf};
+ghost use Rattle.splitter.specs.Steps.{limitsNumber};
 
 pub struct AudioFrameSplitter {
     // The syntax code: 0 AC-3 and E-AC-3, 1 MPEG audio, 2 ADTS.
@@ -11,4 +19,113 @@ pub struct AudioFrameSplitter {
     pub discarded: u64,
     // Set once a frame was handed back by a push.
     pub locked: bool,
+}
+
+pub enum Limits {
+    Kept,
+    Broken(SplitterRefusal),
+}
+
+// Whether a time lies outside -2^62 .. 2^62.
+fn far(t: i64) -> bool
+    ensures { λ r. ⌜ r ≡ far t ⌝ }
+{
+    if t < -4611686018427387904 {
+        return true;
+    }
+    4611686018427387904 < t
+}
+
+fn far_pts(pts: Pts) -> bool
+    ensures { λ r. ⌜ r ≡ farPts pts ⌝ }
+{
+    match pts {
+        Pts::At(t) => far(t),
+        Pts::Absent => false,
+    }
+}
+
+fn bad_anchor(held: Anchored) -> bool
+    ensures { λ r. ⌜ r ≡ badAnchor held ⌝ }
+{
+    let Anchored::To(a) = held else {
+        return false;
+    };
+    if 4096 < a.samples_per_frame {
+        return true;
+    }
+    far(a.pts)
+}
+
+fn many_since(held: Anchored) -> bool
+    ensures { λ r. ⌜ r ≡ manySince held ⌝ }
+{
+    let Anchored::To(a) = held else {
+        return false;
+    };
+    4_294_000_000 < a.frames_since
+}
+
+// Whether a lent buffer is too short, with so many bytes pending and in the payload: the pending buffer, the output, the rows.
+fn tight(held: usize, payload: usize, pending: usize, out: usize, rows: usize) -> bool
+    requires { ⌜ (held ≤ 8190) × (payload ≤ 65535) ⌝ }
+    ensures { λ r. ⌜ r ≡ tightOf held payload pending out rows ⌝ }
+{
+    let joined = held + payload;
+    if pending < 8190 {
+        return true;
+    }
+    if out < joined {
+        return true;
+    }
+    rows < 8 * (joined / 7)
+}
+
+impl AudioFrameSplitter {
+    // Number 8.
+    pub fn bad_state(self) -> bool
+        ensures { λ r. ⌜ r ≡ badState self ⌝ }
+    {
+        let pending = self.pending;
+        if 8190 < pending {
+            return true;
+        }
+        let timing = self.timing;
+        let anchor = timing.anchor;
+        bad_anchor(anchor)
+    }
+
+    // Number 11.
+    fn bad_count(self) -> bool
+        ensures { λ r. ⌜ r ≡ badCount self ⌝ }
+    {
+        let timing = self.timing;
+        let anchor = timing.anchor;
+        if many_since(anchor) {
+            return true;
+        }
+        4611686018427387904 < self.discarded
+    }
+
+    // The numbers 8 to 12 for a push, from lengths and numbers alone.
+    pub fn limits(self, payload: usize, pts: Pts, pending: usize, out: usize, rows: usize) -> Limits
+        ensures { λ r. ⌜ limitsNumber r ≡ refusalOf self payload pts pending out rows ⌝ }
+    {
+        if self.bad_state() {
+            return Limits::Broken(SplitterRefusal::State);
+        }
+        if 65535 < payload {
+            return Limits::Broken(SplitterRefusal::PayloadLength);
+        }
+        if far_pts(pts) {
+            return Limits::Broken(SplitterRefusal::Timestamp);
+        }
+        if self.bad_count() {
+            return Limits::Broken(SplitterRefusal::Count);
+        }
+        if tight(self.pending, payload, pending, out, rows) {
+            return Limits::Broken(SplitterRefusal::Buffer);
+        }
+        Limits::Kept
+    }
 }

@@ -1,6 +1,12 @@
 // Presentation times: the payload's timestamp goes to the first thing that commences in the payload, and the later ones are worked
 // out from the anchor that it makes.
 
+use heads::AudioFrameInfo;
+ghost use mathlib.Core.Path.{_≡_};
+ghost use Prim.Native.Nat.{_≤_};
+ghost use Rattle.splitter.specs.Stamp.{after, give, keep, voided, guessOf, emptied, forgotten};
+ghost use Rattle.splitter.specs.Steps.{Steady, Good, interpolated, anchoredTo, takenStamp, keptWith, tailTiming};
+
 // A presentation time on the 90 kHz clock, where there is one.
 pub enum Pts {
     At(i64),
@@ -42,4 +48,219 @@ pub struct Geometry {
 pub struct Stamped {
     pub pts: Pts,
     pub clock: Clock,
+}
+
+impl Anchor {
+    // The stamp of the next frame with that geometry.
+    fn stamp(self, geometry: Geometry) -> i64
+        requires { ⌜ Steady 4294967294 self × (geometry .«samples_per_frame» ≤ 4096) ⌝ }
+        ensures { λ r. ⌜ r ≡ after (self .pts) (self .«frames_since») geometry ⌝ }
+    {
+        let rate = geometry.sample_rate;
+        if rate == 0 {
+            return self.pts;
+        }
+        let ticks = (self.frames_since as u64) * (geometry.samples_per_frame as u64) * 90_000;
+        self.pts + (ticks / (rate as u64)) as i64
+    }
+}
+
+impl Timing {
+    // Neither a pending stamp nor an anchor.
+    pub fn forgotten() -> Timing
+        ensures { λ r. ⌜ r ≡ forgotten ⌝ }
+    {
+        Timing {
+            residual_pts: Pts::Absent,
+            anchor: Anchored::Free,
+        }
+    }
+
+    // Nothing is pending any more.
+    pub fn emptied(self) -> Timing
+        ensures { λ r. ⌜ r ≡ emptied self ⌝ }
+    {
+        let anchor = self.anchor;
+        Timing {
+            residual_pts: Pts::Absent,
+            anchor,
+        }
+    }
+}
+
+impl Clock {
+    // A stamp worked out from the anchor, which counts one more.
+    fn interpolate(self, geometry: Geometry) -> Stamped
+        requires { ⌜ Good 4294967294 self × (geometry .«samples_per_frame» ≤ 4096) ⌝ }
+        ensures { λ r. ⌜ r ≡ interpolated self geometry ⌝ }
+    {
+        let timing = self.timing;
+        let held = timing.anchor;
+        let Anchored::To(a) = held else {
+            return Stamped {
+                pts: Pts::Absent,
+                clock: self,
+            };
+        };
+        let t = a.stamp(geometry);
+        let anchor = Anchor {
+            pts: a.pts,
+            frames_since: a.frames_since + 1,
+            samples_per_frame: geometry.samples_per_frame,
+            sample_rate: geometry.sample_rate,
+        };
+        Stamped {
+            pts: Pts::At(t),
+            clock: self.anchored(anchor),
+        }
+    }
+
+    // The clock with that anchor.
+    fn anchored(self, anchor: Anchor) -> Clock
+        ensures { λ r. ⌜ r ≡ anchoredTo self anchor ⌝ }
+    {
+        let new_pts = self.new_pts;
+        let timing = self.timing;
+        let residual_pts = timing.residual_pts;
+        Clock {
+            new_pts,
+            timing: Timing {
+                residual_pts,
+                anchor: Anchored::To(anchor),
+            },
+        }
+    }
+
+    // A thing that begins in the payload: the payload's timestamp if unused, which makes a new anchor, else worked out.
+    fn take_stamp(self, geometry: Geometry) -> Stamped
+        requires { ⌜ Good 4294967294 self × (geometry .«samples_per_frame» ≤ 4096) ⌝ }
+        ensures { λ r. ⌜ r ≡ takenStamp self geometry ⌝ }
+    {
+        let new_pts = self.new_pts;
+        let Pts::At(t) = new_pts else {
+            return self.interpolate(geometry);
+        };
+        let timing = self.timing;
+        let residual_pts = timing.residual_pts;
+        let anchor = Anchor {
+            pts: t,
+            frames_since: 1,
+            samples_per_frame: geometry.samples_per_frame,
+            sample_rate: geometry.sample_rate,
+        };
+        Stamped {
+            pts: Pts::At(t),
+            clock: Clock {
+                new_pts: Pts::Absent,
+                timing: Timing {
+                    residual_pts,
+                    anchor: Anchored::To(anchor),
+                },
+            },
+        }
+    }
+
+    // The stamp of a frame that is given; `early`: it began in pending bytes, and uses up the pending stamp.
+    pub fn give(self, early: bool, info: AudioFrameInfo) -> Stamped
+        requires { ⌜ Good 4294967294 self × (info .«samples_per_frame» ≤ 4096) ⌝ }
+        ensures { λ r. ⌜ r ≡ give early info self ⌝ }
+    {
+        let geometry = Geometry {
+            samples_per_frame: info.samples_per_frame,
+            sample_rate: info.sample_rate,
+        };
+        if !early {
+            return self.take_stamp(geometry);
+        }
+        let timing = self.timing;
+        let residual_pts = timing.residual_pts;
+        let Pts::At(t) = residual_pts else {
+            return self.interpolate(geometry);
+        };
+        Stamped {
+            pts: Pts::At(t),
+            clock: self.voided(true),
+        }
+    }
+
+    // What is known once a thing with that geometry is kept.
+    fn keep_with(self, early: bool, geometry: Geometry) -> Timing
+        requires { ⌜ Good 4294967294 self × (geometry .«samples_per_frame» ≤ 4096) ⌝ }
+        ensures { λ r. ⌜ r ≡ keptWith early geometry self ⌝ }
+    {
+        if early {
+            return self.timing;
+        }
+        let stamped = self.take_stamp(geometry);
+        let residual_pts = stamped.pts;
+        let clock = stamped.clock;
+        let timing = clock.timing;
+        let anchor = timing.anchor;
+        Timing {
+            residual_pts,
+            anchor,
+        }
+    }
+
+    // What is known once a frame that runs past the end is kept.
+    pub fn keep(self, early: bool, info: AudioFrameInfo) -> Timing
+        requires { ⌜ Good 4294967294 self × (info .«samples_per_frame» ≤ 4096) ⌝ }
+        ensures { λ r. ⌜ r ≡ keep early info self ⌝ }
+    {
+        let geometry = Geometry {
+            samples_per_frame: info.samples_per_frame,
+            sample_rate: info.sample_rate,
+        };
+        self.keep_with(early, geometry)
+    }
+
+    // What is known once `left` bytes are kept that are too few for a head.
+    pub fn keep_tail(self, early: bool, left: usize) -> Timing
+        requires { ⌜ Good 4294967294 self ⌝ }
+        ensures { λ r. ⌜ r ≡ tailTiming left early self ⌝ }
+    {
+        if left == 0 {
+            let timing = self.timing;
+            return timing.emptied();
+        }
+        let geometry = self.geometry_guess();
+        self.keep_with(early, geometry)
+    }
+
+    // The pending stamp is void, if what was lost voids it.
+    pub fn voided(self, void: bool) -> Clock
+        ensures { λ r. ⌜ r ≡ voided void self ⌝ }
+    {
+        if !void {
+            return self;
+        }
+        let new_pts = self.new_pts;
+        let timing = self.timing;
+        let anchor = timing.anchor;
+        Clock {
+            new_pts,
+            timing: Timing {
+                residual_pts: Pts::Absent,
+                anchor,
+            },
+        }
+    }
+
+    // The geometry for bytes whose head is not read: the anchor's own.
+    fn geometry_guess(self) -> Geometry
+        ensures { λ r. ⌜ r ≡ guessOf (self .timing .anchor) ⌝ }
+    {
+        let timing = self.timing;
+        let held = timing.anchor;
+        let Anchored::To(a) = held else {
+            return Geometry {
+                samples_per_frame: 0,
+                sample_rate: 0,
+            };
+        };
+        Geometry {
+            samples_per_frame: a.samples_per_frame,
+            sample_rate: a.sample_rate,
+        }
+    }
 }

@@ -1,0 +1,46 @@
+-- `is_out_intact` is safe and ends.
+use Prim.Native.Nat.{_-_}
+use borrow.Author.Needs.{needs}
+use Rattle.replay.proofs.buffers.is_out_intact.Statement.{statement}
+use Rattle.replay.proofs.buffers.is_out_intact.Tie as tie
+
+abbrev Inv-loop : tie.InvT-loop
+Inv-loop out start end intact₀ i₀ intact i = Unit {0}
+
+abbrev μ-loop : tie.MeasureT-loop
+μ-loop out start end intact₀ i₀ intact i = end - i
+
+loop-holds : tie.Need-loop-holds Inv-loop μ-loop
+loop-holds c = search needs
+
+element-copy-out-if1 : tie.Need-element-copy-out-if1 Inv-loop μ-loop
+element-copy-out-if1 c = search needs
+
+out-pattern-requires : tie.Need-out-pattern-requires Inv-loop μ-loop
+out-pattern-requires c κs = search needs
+
+add-i : tie.Need-add-i Inv-loop μ-loop
+add-i c = search needs
+
+loop-less : tie.Need-loop-less Inv-loop μ-loop
+loop-less c = search needs
+
+loop-again : tie.Need-loop-again Inv-loop μ-loop
+loop-again c = search needs
+
+returns : tie.Need-returns Inv-loop μ-loop
+returns c = search needs
+
+pub is-out-intact-spec : {M : Type 1} → statement M
+is-out-intact-spec =
+    tie.close
+    (tie.spec
+    Inv-loop
+    μ-loop
+    loop-holds
+    element-copy-out-if1
+    out-pattern-requires
+    add-i
+    loop-less
+    loop-again
+    returns)

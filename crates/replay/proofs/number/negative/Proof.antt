@@ -1,0 +1,24 @@
+-- `negative` is safe: the number fits 64 bits.
+use Rattle.replay.proofs.Signed.{minus-fits}
+use Prim.Native.Nat.{_-_}
+use borrow.Author.Needs.{needs}
+use Rattle.replay.proofs.number.negative.Statement.{statement}
+use Rattle.replay.proofs.number.negative.Tie as tie
+
+returns : tie.Need-returns
+returns c = search needs
+
+sub-result : tie.Need-sub-result
+sub-result c = search needs
+
+cast-result : tie.Need-cast-result
+cast-result c = search needs
+
+sub-result-2 : tie.Need-sub-result-2
+sub-result-2 c = minus-fits 0 (c .before .args .n - 1) (search needs)
+
+returns-2 : tie.Need-returns-2
+returns-2 c = search needs
+
+pub negative-spec : {M : Type 1} → statement M
+negative-spec = tie.close (tie.spec returns sub-result cast-result sub-result-2 returns-2)

@@ -1,0 +1,84 @@
+// The buffers that are lent to the calls. Between two calls the output and the rows hold a pattern, so that a number that a call wrote where
+// it should not shows.
+ghost use Prim.Native.Nat.{_≤_, _<_};
+
+pub const PENDING_LEN: usize = 8200;
+
+pub const OUT_LEN: usize = 73800;
+
+pub const ROWS_LEN: usize = 84280;
+
+// How many numbers a row has.
+pub const ROW_LEN: usize = 8;
+
+// In 32 bits, in which several bytes are compared at once.
+fn out_pattern(i: usize) -> u8
+    requires { ⌜ i < 73800 ⌝ }
+{
+    ((i as u32 * 7 + 3) % 251) as u8
+}
+
+fn row_pattern(i: usize) -> i64
+    requires { ⌜ i < 84280 ⌝ }
+{
+    -1000000 - (i as i64)
+}
+
+// Puts the pattern back into the first end bytes of the output.
+pub fn fill_out(out: &mut [u8; OUT_LEN], end: usize)
+    requires { ⌜ end ≤ 73800 ⌝ }
+{
+    for i in 0..end {
+        out[i] = out_pattern(i);
+    }
+}
+
+// Puts the pattern back into the first end numbers of the rows.
+pub fn fill_rows(rows: &mut [i64; ROWS_LEN], end: usize)
+    requires { ⌜ end ≤ 84280 ⌝ }
+{
+    for i in 0..end {
+        rows[i] = row_pattern(i);
+    }
+}
+
+// Whether the output has its pattern from place start up to end.
+pub fn is_out_intact(out: &[u8; OUT_LEN], start: usize, end: usize) -> bool
+    requires { ⌜ end ≤ 73800 ⌝ }
+{
+    let mut intact = true;
+    for i in start..end {
+        if out[i] != out_pattern(i) {
+            intact = false;
+        }
+    }
+    intact
+}
+
+// Whether the rows have their pattern from number start up to end.
+pub fn are_rows_intact(rows: &[i64; ROWS_LEN], start: usize, end: usize) -> bool
+    requires { ⌜ end ≤ 84280 ⌝ }
+{
+    let mut intact = true;
+    for i in start..end {
+        if rows[i] != row_pattern(i) {
+            intact = false;
+        }
+    }
+    intact
+}
+
+// Whether the pending buffer is as it was from place start on.
+pub fn is_pending_kept(
+    kept: &[u8; PENDING_LEN],
+    pending: &[u8; PENDING_LEN],
+    start: usize,
+) -> bool {
+    let mut same = true;
+    for i in start..PENDING_LEN {
+        if kept[i] != pending[i] {
+            same = false;
+        }
+    }
+    same
+}

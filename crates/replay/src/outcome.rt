@@ -1,0 +1,141 @@
+// What a call answered, the same for all calls, and the line that says so.
+use crate::buffers::OUT_LEN;
+use crate::buffers::PENDING_LEN;
+use crate::buffers::ROWS_LEN;
+use crate::output::BLOCK_LEN;
+use crate::output::Output;
+use crate::print::put_decimal;
+use crate::print::put_field;
+use crate::print::put_octets;
+use crate::print::put_rows;
+use crate::state::put_state;
+use splitter::AudioFrameSplitter;
+use splitter::FlushAnswer;
+use splitter::PushAnswer;
+use splitter::Written;
+ghost use Prim.Native.Nat.{_*_, _≤_};
+ghost use Rattle.replay.specs.Bounds.{Bounded, Fitting};
+
+pub enum Outcome {
+    // The number of the refusal.
+    Refused(u32),
+    // A payload that was not taken, or no frame.
+    Nothing,
+    Wrote(Written),
+    // A call that writes nothing into the buffers.
+    Done,
+}
+
+impl Outcome {
+    pub fn of_push(answer: PushAnswer) -> Self {
+        match answer {
+            PushAnswer::Refused(refusal) => Outcome::Refused(refusal.number()),
+            PushAnswer::NotTaken => Outcome::Nothing,
+            PushAnswer::Taken(written) => Outcome::Wrote(written),
+        }
+    }
+
+    pub fn of_flush(answer: FlushAnswer) -> Self {
+        match answer {
+            FlushAnswer::Refused(refusal) => Outcome::Refused(refusal.number()),
+            FlushAnswer::NoFrame => Outcome::Nothing,
+            FlushAnswer::Frame(written) => Outcome::Wrote(written),
+        }
+    }
+
+    pub fn written(self) -> Written {
+        match self {
+            Outcome::Wrote(written) => written,
+            _ => Written { rows: 0, bytes: 0 },
+        }
+    }
+}
+
+// The answer to a call, closed by a line feed. Of the buffers it shows what was written, and the pending bytes.
+pub fn put_answer(
+    output: Output,
+    block: &mut [u8; BLOCK_LEN],
+    outcome: Outcome,
+    splitter: AudioFrameSplitter,
+    written: Written,
+    pending: &[u8; PENDING_LEN],
+    out: &[u8; OUT_LEN],
+    rows: &[i64; ROWS_LEN],
+    intact: bool,
+) -> Output
+    requires { ⌜ Bounded output × Fitting written ⌝ }
+    ensures { λ r. ⌜ Bounded r ⌝ }
+{
+    let after_outcome = put_outcome(output, block, outcome).put_byte(block, b' ');
+    let after_state = put_state(after_outcome, block, splitter).put_byte(block, b' ');
+    let after_rows = put_rows(after_state, block, rows, written.rows).put_byte(block, b' ');
+    let after_out = put_written(after_rows, block, written.bytes, out).put_byte(block, b' ');
+    let after_pending = put_pending(after_out, block, splitter.pending_bytes(), pending).put_byte(
+        block,
+        b' ',
+    );
+    put_rest(after_pending, block, intact).put_byte(block, b'\n')
+}
+
+fn put_outcome(output: Output, block: &mut [u8; BLOCK_LEN], outcome: Outcome) -> Output
+    requires { ⌜ Bounded output ⌝ }
+    ensures { λ r. ⌜ Bounded r ⌝ }
+{
+    match outcome {
+        Outcome::Refused(number) => {
+            put_decimal(output.put_byte(block, b'!'), block, number as u64)
+        }
+        Outcome::Nothing => output.put_byte(block, b'x'),
+        Outcome::Wrote(written) => put_counts(output, block, written),
+        Outcome::Done => output.put_byte(block, b'o'),
+    }
+}
+
+fn put_counts(output: Output, block: &mut [u8; BLOCK_LEN], written: Written) -> Output
+    requires { ⌜ Bounded output ⌝ }
+    ensures { λ r. ⌜ Bounded r ⌝ }
+{
+    let after_mark = output.put_text(block, b"t,");
+    let after_rows = put_field(after_mark, block, written.rows as u64, b',');
+    put_decimal(after_rows, block, written.bytes as u64)
+}
+
+fn put_written(
+    output: Output,
+    block: &mut [u8; BLOCK_LEN],
+    count: usize,
+    out: &[u8; OUT_LEN],
+) -> Output
+    requires { ⌜ Bounded output × (count ≤ 73800) ⌝ }
+    ensures { λ r. ⌜ Bounded r ⌝ }
+{
+    let bytes: &[u8] = out;
+    put_octets(output, block, &bytes[0..count])
+}
+
+// The front of the pending buffer: all of it where the state says that more is pending.
+fn put_pending(
+    output: Output,
+    block: &mut [u8; BLOCK_LEN],
+    len: usize,
+    pending: &[u8; PENDING_LEN],
+) -> Output
+    requires { ⌜ Bounded output ⌝ }
+    ensures { λ r. ⌜ Bounded r ⌝ }
+{
+    let bytes: &[u8] = pending;
+    if len > PENDING_LEN {
+        return put_octets(output, block, bytes);
+    }
+    put_octets(output, block, &bytes[0..len])
+}
+
+fn put_rest(output: Output, block: &mut [u8; BLOCK_LEN], intact: bool) -> Output
+    requires { ⌜ Bounded output ⌝ }
+    ensures { λ r. ⌜ Bounded r ⌝ }
+{
+    if intact {
+        return output.put_byte(block, b'=');
+    }
+    output.put_byte(block, b'#')
+}

@@ -1,0 +1,217 @@
+// The splitter's state as text: read from a line, where spaces stand between its parts, and written to an answer, where slashes do.
+use crate::number::Number;
+use crate::number::Place;
+use crate::number::Short;
+use crate::number::Stamp;
+use crate::number::number_after;
+use crate::number::parse_pts;
+use crate::number::short_after;
+use crate::number::skip;
+use crate::output::BLOCK_LEN;
+use crate::output::Output;
+use crate::print::put_decimal;
+use crate::print::put_field;
+use crate::print::put_signed;
+use splitter::Anchor;
+use splitter::Anchored;
+use splitter::AudioFrameSplitter;
+use splitter::Pts;
+use splitter::Timing;
+ghost use Rattle.replay.specs.Bounds.{Bounded};
+
+// A state that was read, and the place behind it.
+pub enum StateText {
+    Read {
+        splitter: AudioFrameSplitter,
+        next: usize,
+    },
+    NoState,
+}
+
+enum TimingText {
+    Read { timing: Timing, next: usize },
+    NoTiming,
+}
+
+enum AnchorText {
+    Read { anchor: Anchored, next: usize },
+    NoAnchor,
+}
+
+// Code, pending bytes, timestamp, anchor, discarded bytes, and whether it is locked, with a space before each.
+pub fn parse_state(line: &[u8], at: usize) -> StateText {
+    let Short::Value {
+        value: syntax,
+        next: code_end,
+    } = short_after(line, at, b' ')
+    else {
+        return StateText::NoState;
+    };
+    let Number::Value {
+        value: pending,
+        next: pending_end,
+    } = number_after(line, code_end, b' ', u64::MAX)
+    else {
+        return StateText::NoState;
+    };
+    let TimingText::Read {
+        timing,
+        next: timing_end,
+    } = parse_timing(line, pending_end)
+    else {
+        return StateText::NoState;
+    };
+    let Number::Value {
+        value: discarded,
+        next: discarded_end,
+    } = number_after(line, timing_end, b' ', u64::MAX)
+    else {
+        return StateText::NoState;
+    };
+    let Number::Value {
+        value: locked,
+        next,
+    } = number_after(line, discarded_end, b' ', 1)
+    else {
+        return StateText::NoState;
+    };
+    StateText::Read {
+        splitter: AudioFrameSplitter {
+            syntax,
+            pending: pending as usize,
+            timing,
+            discarded,
+            locked: locked == 1,
+        },
+        next,
+    }
+}
+
+fn parse_timing(line: &[u8], at: usize) -> TimingText {
+    let Place::At(start) = skip(line, at, b' ') else {
+        return TimingText::NoTiming;
+    };
+    let Stamp::Read {
+        pts: residual_pts,
+        next: pts_end,
+    } = parse_pts(line, start)
+    else {
+        return TimingText::NoTiming;
+    };
+    let Place::At(anchor_start) = skip(line, pts_end, b' ') else {
+        return TimingText::NoTiming;
+    };
+    let AnchorText::Read { anchor, next } = parse_anchor(line, anchor_start) else {
+        return TimingText::NoTiming;
+    };
+    TimingText::Read {
+        timing: Timing {
+            residual_pts,
+            anchor,
+        },
+        next,
+    }
+}
+
+// A minus sign where there is no anchor, as where there is no timestamp.
+fn parse_anchor(line: &[u8], at: usize) -> AnchorText {
+    let Stamp::Read { pts, next } = parse_pts(line, at) else {
+        return AnchorText::NoAnchor;
+    };
+    match pts {
+        Pts::At(time) => parse_anchor_numbers(line, next, time),
+        Pts::Absent => AnchorText::Read {
+            anchor: Anchored::Free,
+            next,
+        },
+    }
+}
+
+fn parse_anchor_numbers(line: &[u8], at: usize, pts: i64) -> AnchorText {
+    let Short::Value {
+        value: frames_since,
+        next: frames_end,
+    } = short_after(line, at, b':')
+    else {
+        return AnchorText::NoAnchor;
+    };
+    let Short::Value {
+        value: samples_per_frame,
+        next: samples_end,
+    } = short_after(line, frames_end, b':')
+    else {
+        return AnchorText::NoAnchor;
+    };
+    let Short::Value {
+        value: sample_rate,
+        next,
+    } = short_after(line, samples_end, b':')
+    else {
+        return AnchorText::NoAnchor;
+    };
+    AnchorText::Read {
+        anchor: Anchored::To(Anchor {
+            pts,
+            frames_since,
+            samples_per_frame,
+            sample_rate,
+        }),
+        next,
+    }
+}
+
+// What the splitter answers where there is a question for it, and the rest from its fields.
+pub fn put_state(out: Output, block: &mut [u8; BLOCK_LEN], splitter: AudioFrameSplitter) -> Output
+    requires { ⌜ Bounded out ⌝ }
+    ensures { λ r. ⌜ Bounded r ⌝ }
+{
+    let timing = splitter.timing;
+    let after_code = put_field(out, block, splitter.syntax() as u64, b'/');
+    let after_pending = put_field(after_code, block, splitter.pending_bytes() as u64, b'/');
+    let after_timing = put_timing(after_pending, block, timing);
+    let after_discarded = put_field(after_timing, block, splitter.discarded_bytes(), b'/');
+    if splitter.is_locked() {
+        return after_discarded.put_byte(block, b'1');
+    }
+    after_discarded.put_byte(block, b'0')
+}
+
+fn put_timing(out: Output, block: &mut [u8; BLOCK_LEN], timing: Timing) -> Output
+    requires { ⌜ Bounded out ⌝ }
+    ensures { λ r. ⌜ Bounded r ⌝ }
+{
+    let pts = timing.residual_pts;
+    let anchor = timing.anchor;
+    let after_pts = put_pts(out, block, pts).put_byte(block, b'/');
+    put_anchor(after_pts, block, anchor).put_byte(block, b'/')
+}
+
+fn put_pts(out: Output, block: &mut [u8; BLOCK_LEN], pts: Pts) -> Output
+    requires { ⌜ Bounded out ⌝ }
+    ensures { λ r. ⌜ Bounded r ⌝ }
+{
+    match pts {
+        Pts::At(time) => put_signed(out, block, time),
+        Pts::Absent => out.put_byte(block, b'-'),
+    }
+}
+
+fn put_anchor(out: Output, block: &mut [u8; BLOCK_LEN], anchored: Anchored) -> Output
+    requires { ⌜ Bounded out ⌝ }
+    ensures { λ r. ⌜ Bounded r ⌝ }
+{
+    match anchored {
+        Anchored::To(anchor) => put_anchor_numbers(out, block, anchor),
+        Anchored::Free => out.put_byte(block, b'-'),
+    }
+}
+
+fn put_anchor_numbers(out: Output, block: &mut [u8; BLOCK_LEN], anchor: Anchor) -> Output
+    requires { ⌜ Bounded out ⌝ }
+    ensures { λ r. ⌜ Bounded r ⌝ }
+{
+    let after_pts = put_signed(out, block, anchor.pts).put_byte(block, b':');
+    let after_frames = put_field(after_pts, block, anchor.frames_since as u64, b':');
+    let after_samples = put_field(after_frames, block, anchor.samples_per_frame as u64, b':');
+    put_decimal(after_samples, block, anchor.sample_rate as u64)
+}

@@ -1,0 +1,137 @@
+-- What the search of a push has met, and what a push that has ended hands back: just what the definition says. Assumes nothing.
+use mathlib.Core.Path.{_≡_, refl, sym, _∙_, ap, ap₂, subst}
+use mathlib.Core.Bool.{Bool, true, false, _&&_, _||_}
+use mathlib.Core.List.{List, [], _∷_, _++_}
+use Prim.Native.Nat.{ℕ, _+_, _-_, _*_, _/_, _≤_, _<_}
+use native.Mathlib.Omega.{arith}
+use lib.Dec.{ltb, leb}
+use lib.IntN.{ℤ}
+use lib.ListN.{length, take, drop, length-drop}
+use Rattle.heads.specs.Syntax.{headOf, needOf}
+use Rattle.heads.proofs.Promise.{length-most, samples-most}
+use Rattle.heads.specs.declared.info.AudioFrameInfo.{AudioFrameInfo}
+use Rattle.heads.specs.declared.info.Head.{Head}
+use Rattle.heads.specs.declared.info.Head.the-variants.{Read, Refused}
+use Rattle.heads.specs.declared.info.Refusal.{Refusal}
+use Rattle.heads.specs.declared.syntax.AudioSyntax.{AudioSyntax}
+use Rattle.splitter.specs.Cut.{unread, remainder}
+use Rattle.splitter.specs.Answer.{Answer, done, pushAnswer}
+use Rattle.splitter.specs.Stamp.{Sheet}
+use Rattle.splitter.specs.Push.{Event, event, rowWidth, over, bytesOf, rowsOf, anyFrame, refusalOf, pushTaken}
+use Rattle.splitter.specs.Steps.{Good, Small, Settleable, settled, startClock, lostWalk, givenWalk, endTiming}
+use Rattle.splitter.specs.declared.answer.Pushed.{Pushed}
+use Rattle.splitter.specs.declared.timing.Clock.{Clock}
+use Rattle.splitter.specs.declared.timing.Pts.{Pts}
+use Rattle.splitter.specs.declared.push.Next.{Next}
+use Rattle.splitter.specs.declared.push.Next.the-variants.{Frame, Partial, End}
+use Rattle.splitter.specs.declared.push.Walk.{Walk}
+use Rattle.splitter.specs.declared.state.AudioFrameSplitter.{AudioFrameSplitter}
+use Rattle.splitter.proofs.Clocks.{Fine, good-start, good-more}
+use Rattle.splitter.proofs.Walking.{Slid, Going, Ended, going-slid, ends-partial, ends-short, cutsAll, sheetAll, any-length}
+
+-- ---- steps of the code, as numbers
+
+pub lost-place : (r w : Walk) (n : ℕ) → r ≡ lostWalk w n → r .place ≡ w .place + n
+unfolding lostWalk
+lost-place r w n e = ap (λ (v : Walk). v .place) e
+
+pub given-place : (r w : Walk) (n : ℕ) → r ≡ givenWalk w n → r .place ≡ w .place + n
+unfolding givenWalk
+given-place r w n e = ap (λ (v : Walk). v .place) e
+
+pub not-read : (h k : Head) (g : Refusal) → h ≡ k → h ≡ Refused g → unread k ≡ true
+not-read h k g e r = ap unread (sym e ∙ r)
+
+pub is-read : (h k : Head) (i : AudioFrameInfo) → h ≡ k → h ≡ Read i → k ≡ Read i
+is-read h k i e r = sym e ∙ r
+
+pub good-clock : (s : AudioFrameSplitter) (p : ℕ) (t : Pts) (b o r : ℕ) → refusalOf s p t b o r ≡ 0 → (c : Clock) → c ≡ startClock s t → Good 4294000000 c
+unfolding startClock
+good-clock s p t b o r h c e = rw e (good-start s p t b o r h)
+
+module _ (x : AudioSyntax) (J : List ℕ) (p : ℕ) where
+  -- the numbers of a walk stay small
+  pub small : (c₀ : Clock) (out₀ : List ℕ) (rows₀ : List ℤ) (c : Clock) (w : Walk) (out : List ℕ) (rows : List ℤ) (n : ℕ) → Going x J p c₀ out₀ rows₀ c w out rows
+      → length J ≤ 73725 → w .place + n ≤ length J → Small w n
+  small c₀ out₀ rows₀ c w out rows n g h k =
+      record { place-small = omega arith; lost-small = g .gone; rows-small = omega (arith, g .frames-few); bytes-small = g .written }
+
+  -- ---- what the search has met
+
+  abbrev pub Met : Walk → Next → Type 0
+  Met w (Frame i) =
+      (headOf x (drop (w .place) J) ≡ Read i) × (needOf x ≤ i .«frame_len») × (w .place + i .«frame_len» ≤ length J)
+      × ((leb (needOf x) (length J - (w .place + i .«frame_len»)) && unread (headOf x (drop (w .place + i .«frame_len») J))) ≡ false)
+  Met w (Partial i) =
+      (headOf x (drop (w .place) J) ≡ Read i) × (w .place + needOf x ≤ length J) × (needOf x ≤ i .«frame_len») × (length J - w .place < i .«frame_len»)
+  Met w End = length J - w .place < needOf x
+
+  module _ (c₀ : Clock) (out₀ : List ℕ) (rows₀ : List ℤ) (c : Clock) (w : Walk) (out : List ℕ) (rows : List ℤ) (g : Going x J p c₀ out₀ rows₀ c w out rows)
+      (ho : length J ≤ length out₀) (hr : rowWidth * (length J / 7) ≤ length rows₀) where
+    pub ended : (last : Next) → ((i : AudioFrameInfo) → last ≡ Frame i → ⊥) → Met w last → Ended x J p c₀ out₀ rows₀ c w out rows g last
+    ended (Frame i) never m = absurd (never i refl)
+    ended (Partial i) never m = ends-partial x J p c₀ out₀ rows₀ c w out rows g ho hr i (m .0) (m .1) (m .2) (m .3)
+    ended End never m = ends-short x J p c₀ out₀ rows₀ c w out rows g ho hr m
+
+    pub settleable : (s : AudioFrameSplitter) (last : Next) (total : ℕ) → Met w last → total ≡ length J → length J ≤ 73725 → s .discarded ≤ 4611686018427387904 → Settleable s w c last total
+    settleable s last total m t h d =
+        record {
+          good = good-more (g .good) (omega (arith, g .frames-few, g .reached));
+          few = λ i e. samples-most x (drop (w .place) J) i ((subst (Met w) e m) .0);
+          reached = omega (arith, g .reached);
+          gone = omega (arith, g .gone, g .reached);
+          room = d;
+        }
+
+-- ---- what a push that has ended hands back
+
+module _ (x : AudioSyntax) (s : AudioFrameSplitter) (pay : List ℕ) (t : Pts) (pend out₀ : List ℕ) (rows₀ : List ℤ) (c₀ : Clock) (start : c₀ ≡ startClock s t) where
+  abbrev e : Event
+  e = event pay t pend out₀ rows₀
+
+  abbrev J : List ℕ
+  J = take (s .pending) pend ++ pay
+
+  module _ (c : Clock) (w : Walk) (out : List ℕ) (rows : List ℤ) (g : Going x J (s .pending) c₀ out₀ rows₀ c w out rows) (last : Next) (d : Ended x J (s .pending) c₀ out₀ rows₀ c w out rows g last) (total : ℕ) (size : total ≡ length J) where
+    -- the definition's frames, with the clock as the code made it
+    frames-are : sheetAll x J (s .pending) c₀ ≡ sheetAll x J (s .pending) (record { «new_pts» = t; timing = s .timing })
+    unfolding startClock
+    frames-are = ap (sheetAll x J (s .pending)) start
+
+    pub answer-is : (r : Pushed) → r ≡ settled s w c last total → pushAnswer (r .answer) ≡ pushTaken true x s e .answer
+    unfolding settled
+    answer-is r q =
+        ap (λ (z : Pushed). pushAnswer (z .answer)) q
+        ∙ ap₂ (λ (a b : ℕ). done true a b) (d .rows-count ∙ ap (λ (z : Sheet). length (z .frames)) frames-are) (d .bytes-count ∙ ap (λ (z : Sheet). length (bytesOf (z .frames))) frames-are)
+
+    pub state-is : (r : Pushed) → r ≡ settled s w c last total → r .splitter ≡ pushTaken true x s e .state
+    unfolding settled
+    state-is r q =
+        ap (λ (z : Pushed). z .splitter) q
+        ∙ (λ j. record {
+          syntax = s .syntax;
+          pending = left j;
+          timing = (timing ∙ ap (λ (z : Sheet). z .timing) frames-are) j;
+          discarded = s .discarded + d .lost-count j;
+          locked = s .locked || locked j;
+        })
+      where
+        left : total - w .place ≡ length (remainder (cutsAll x J (s .pending)))
+        left = (let z : total - w .place ≡ length J - w .place = omega (arith, size) in z) ∙ sym (length-drop (w .place) J) ∙ ap length (d .left-is)
+
+        timing : endTiming last (ltb (w .place) (s .pending)) (total - w .place) c ≡ sheetAll x J (s .pending) c₀ .timing
+        timing = ap (λ (n : ℕ). endTiming last (ltb (w .place) (s .pending)) (n - w .place) c) size ∙ d .timing-is
+
+        locked : ltb 0 (w .rows) ≡ anyFrame (sheetAll x J (s .pending) (record { «new_pts» = t; timing = s .timing }) .frames)
+        locked =
+            ap (ltb 0) (d .rows-count ∙ ap (λ (z : Sheet). length (z .frames)) frames-are)
+            ∙ sym (any-length (sheetAll x J (s .pending) (record { «new_pts» = t; timing = s .timing }) .frames))
+
+    pub pend-is : (z : List ℕ) → z ≡ over (drop (w .place) J) pend → z ≡ pushTaken true x s e .pend
+    pend-is z q = q ∙ ap (λ (l : List ℕ). over l pend) (d .left-is)
+
+    pub out-is : out ≡ pushTaken true x s e .out
+    out-is = d .out-is ∙ ap (λ (z : Sheet). over (bytesOf (z .frames)) out₀) frames-are
+
+    pub rows-are : rows ≡ pushTaken true x s e .rows
+    rows-are = d .rows-is ∙ ap (λ (z : Sheet). over (rowsOf (z .frames)) rows₀) frames-are

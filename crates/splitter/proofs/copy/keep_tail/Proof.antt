@@ -1,0 +1,120 @@
+-- J from a place in the payload is a part of it; from a place in the pending bytes, those come first, moved or in place, then the payload.
+use mathlib.Core.Path.{_≡_, sym, _∙_, ap}
+use mathlib.Core.Logic.{⊎-elim}
+use mathlib.Core.List.{List}
+use Prim.Native.Nat.{ℕ, _-_}
+use native.Mathlib.Omega.{arith}
+use lib.ListN.{length, take, drop, length-take, length-drop}
+use lib.Seq.{take-all, length-take-le}
+use denote.Ref.{now}
+use Rattle.splitter.specs.Push.{over}
+use Rattle.splitter.proofs.Buffers.{over-length, in-place, two-writes, joined-high, joined-low}
+use borrow.Author.Needs.{needs}
+use Rattle.splitter.proofs.copy.keep_tail.Statement.{statement}
+use Rattle.splitter.proofs.copy.keep_tail.Tie as tie
+
+sub-copy-front : tie.Need-sub-copy-front
+sub-copy-front c = search needs
+
+part-copy-front-start : tie.Need-part-copy-front-start
+part-copy-front-start c = search needs
+
+part-copy-front-end : tie.Need-part-copy-front-end
+part-copy-front-end c = search needs
+
+copy-front-requires : tie.Need-copy-front-requires
+copy-front-requires c κs = search needs
+
+same-length : tie.Need-same-length
+same-length c = search needs
+
+returns : tie.Need-returns
+returns c =
+    let s = c .before .before .before .before .before .before .before .before in
+    let p = s .args .carried in
+    let a = s .args .from - p in
+    let q = now (s .args .payload) in
+    let d = now (s .args .pending) in
+    c .before .before .copy-front .ensures
+    ∙ ap (λ (l : List ℕ). over l d)
+    (take-all (length q - a) (drop a q) (simp length-drop (omega arith)) ∙ sym (joined-high p d q (s .pre .0) (s .args .from) (omega arith)))
+
+sub-k : tie.Need-sub-k
+sub-k c = search needs
+
+copy-down-requires : tie.Need-copy-down-requires
+copy-down-requires c κs = search needs
+
+-- the pending bytes from the place on stand at the front
+stands : (c : tie.Joined2)
+    → c .if2 .pending
+    ≡ over (take (c .before .before .before .before .args .carried - c .before .before .before .before .args .from) (drop (c .before .before .before .before .args .from) (now (c .before .before .before .before .args .pending)))) (now (c .before .before .before .before .args .pending))
+stands c =
+    let s = c .before .before .before .before in
+    let d = now (s .args .pending) in
+    ⊎-elim (λ w. w .5 ∙ w .2 .ensures) (λ w. in-place (s .args .from) (s .args .carried - s .args .from) d (c .if2 .pending) (w .0 .left) (w .1) (omega arith)) (c .if2 .came)
+
+as-long : (c : tie.Joined2) → length (c .if2 .pending) ≡ length (now (c .before .before .before .before .args .pending))
+as-long c =
+    let s = c .before .before .before .before in
+    let d = drop (s .args .from) (now (s .args .pending)) in
+    let k = s .args .carried - s .args .from in
+    ap length (stands c)
+    ∙ over-length (take k d) (now (s .args .pending)) (simp (length-take, length-drop) (omega arith))
+
+sub-copy-front-2 : tie.Need-sub-copy-front-2
+sub-copy-front-2 c =
+    let l = as-long c in
+    omega arith
+
+part-copy-front-start-2 : tie.Need-part-copy-front-start-2
+part-copy-front-start-2 c =
+    let l = as-long c in
+    omega arith
+
+part-copy-front-end-2 : tie.Need-part-copy-front-end-2
+part-copy-front-end-2 c = search needs
+
+copy-front-requires-2 : tie.Need-copy-front-requires-2
+copy-front-requires-2 c κs =
+    let l = as-long (c .before) in
+    simp (length-take, length-drop) (omega arith)
+
+same-length-2 : tie.Need-same-length-2
+same-length-2 c =
+    let l = as-long (c .before .before .before .before) in
+    omega arith
+
+returns-2 : tie.Need-returns-2
+returns-2 c =
+    let s = c .before .before .before .before .before .before .before .before in
+    let p = s .args .carried in
+    let f = s .args .from in
+    let d = now (s .args .pending) in
+    let q = now (s .args .payload) in
+    let j = c .before .before .before .before in
+    let l = as-long j in
+    let k = p - f in
+    two-writes k (take k (drop f d)) q d (j .if2 .pending) (c .before .before .copy-front2 .last .0)
+    (length-take-le k (drop f d) (simp length-drop (omega arith)))
+    (omega arith) (stands j) (c .before .before .copy-front2 .ensures)
+    ∙ ap (λ (z : List ℕ). over z d) (sym (joined-low p d q (s .pre .0) f (omega arith)))
+
+pub keep-tail-spec : {M : Type 1} → statement M
+keep-tail-spec =
+    tie.close
+    (tie.spec
+    sub-copy-front
+    part-copy-front-start
+    part-copy-front-end
+    copy-front-requires
+    same-length
+    returns
+    sub-k
+    copy-down-requires
+    sub-copy-front-2
+    part-copy-front-start-2
+    part-copy-front-end-2
+    copy-front-requires-2
+    same-length-2
+    returns-2)

@@ -1,0 +1,22 @@
+-- The code writes down the record that the definition names, and its numbers are small.
+use mathlib.Core.Path.{refl}
+use Rattle.splitter.specs.Steps.{givenWalk}
+use borrow.Author.Needs.{needs}
+use Rattle.splitter.proofs.push.Walk.give.Statement.{statement}
+use Rattle.splitter.proofs.push.Walk.give.Tie as tie
+
+add-t3 : tie.Need-add-t3
+add-t3 c = search needs
+
+add-t4 : tie.Need-add-t4
+add-t4 c = search needs
+
+add-t5 : tie.Need-add-t5
+add-t5 c = search needs
+
+returns : tie.Need-returns
+unfolding givenWalk
+returns c = refl
+
+pub give-spec : {M : Type 1} → statement M
+give-spec = tie.close (tie.spec add-t3 add-t4 add-t5 returns)

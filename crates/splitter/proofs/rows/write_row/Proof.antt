@@ -1,0 +1,147 @@
+-- The eight stores write the row: the six numbers of the head are below 2^32, so that each is the same as a signed one.
+use mathlib.Core.Path.{_≡_, sym, _∙_, ap}
+use native.Mathlib.Omega.{arith}
+use lib.IntN.{pos}
+use lib.ListN.{length-set}
+use mir.Val.{toZ, ofZ}
+use mir.Syntax.{w64}
+use denote.Ref.{now}
+use Rattle.heads.specs.Numbers.{kindNumber, bitRateNumber}
+use Rattle.splitter.specs.Push.{over}
+use Rattle.splitter.specs.Steps.{rowBy}
+use Rattle.splitter.specs.declared.timing.Pts.{Pts}
+use Rattle.splitter.proofs.Buffers.{eight, wide}
+use borrow.Author.Needs.{needs}
+use Rattle.splitter.proofs.rows.write_row.Statement.{statement}
+use Rattle.splitter.proofs.rows.write_row.Tie as tie
+
+cast-row : tie.Need-cast-row
+cast-row c = search needs
+
+slice-set-from-row : tie.Need-slice-set-from-row
+slice-set-from-row c = search needs
+
+number-requires : tie.Need-number-requires
+number-requires c κs = search needs
+
+cast-row-2 : tie.Need-cast-row-2
+cast-row-2 c = search needs
+
+slice-set-from-row-2 : tie.Need-slice-set-from-row-2
+slice-set-from-row-2 c = simp length-set (omega arith)
+
+cast-row-3 : tie.Need-cast-row-3
+cast-row-3 c = search needs
+
+slice-set-from-row-3 : tie.Need-slice-set-from-row-3
+slice-set-from-row-3 c = simp length-set (omega arith)
+
+cast-row-4 : tie.Need-cast-row-4
+cast-row-4 c = search needs
+
+slice-set-from-row-4 : tie.Need-slice-set-from-row-4
+slice-set-from-row-4 c = simp length-set (omega arith)
+
+cast-row-5 : tie.Need-cast-row-5
+cast-row-5 c = search needs
+
+slice-set-from-row-5 : tie.Need-slice-set-from-row-5
+slice-set-from-row-5 c = simp length-set (omega arith)
+
+number-requires-2 : tie.Need-number-requires-2
+number-requires-2 c κs = search needs
+
+cast-row-6 : tie.Need-cast-row-6
+cast-row-6 c = search needs
+
+slice-set-from-row-6 : tie.Need-slice-set-from-row-6
+slice-set-from-row-6 c = simp length-set (omega arith)
+
+enum-known-pts : tie.Need-enum-known-pts
+enum-known-pts c = search needs
+
+slice-set-of-row : tie.Need-slice-set-of-row
+slice-set-of-row c = simp length-set (omega arith)
+
+slice-set-from-t : tie.Need-slice-set-from-t
+slice-set-from-t c = simp length-set (omega arith)
+
+enum-told : tie.Need-enum-told
+enum-told c = search needs
+
+slice-set-of-row-2 : tie.Need-slice-set-of-row-2
+slice-set-of-row-2 c = simp length-set (omega arith)
+
+slice-set-of-row-3 : tie.Need-slice-set-of-row-3
+slice-set-of-row-3 c = simp length-set (omega arith)
+
+same-length : tie.Need-same-length
+same-length c = simp length-set (omega arith)
+
+returns : tie.Need-returns
+unfolding rowBy
+returns c =
+    let s = c .before .before .before .before .before .before .before .before .before in
+    let i = s .args .info in
+    let k = c .before .before .before .before .before .before .before .number in
+    let r = c .before .before .before .number2 in
+    let q1 : toZ w64 (i .«frame_len») ≡ pos (i .«frame_len») = wide (i .«frame_len») (omega arith) in
+    let q2 : toZ w64 (k .result) ≡ pos (kindNumber (i .kind)) = wide (k .result) (omega arith) ∙ ap pos (k .ensures) in
+    let q3 : toZ w64 (i .«samples_per_frame») ≡ pos (i .«samples_per_frame») = wide (i .«samples_per_frame») (omega arith) in
+    let q4 : toZ w64 (i .«sample_rate») ≡ pos (i .«sample_rate») = wide (i .«sample_rate») (omega arith) in
+    let q5 : toZ w64 (i .channels) ≡ pos (i .channels) = wide (i .channels) (omega arith) in
+    let q6 : toZ w64 (r .result) ≡ pos (bitRateNumber (i .«bit_rate»)) = wide (r .result) (omega arith) ∙ ap pos (r .ensures) in
+    let z = c .before .pts .given .0 .0 in
+    let q7 : toZ w64 (ofZ w64 z) ≡ z = search needs in
+    rw (q1, q2, q3, q4, q5, q6, q7)
+    (eight (now (s .args .row)) (pos (i .«frame_len»)) (pos (kindNumber (i .kind))) (pos (i .«samples_per_frame»)) (pos (i .«sample_rate»)) (pos (i .channels)) (pos (bitRateNumber (i .«bit_rate»))) (pos 1) z (s .pre .0)
+    ∙ ap (λ (t : Pts). over (rowBy i t) (now (s .args .row))) (sym (c .before .pts .given .1)))
+
+same-length-2 : tie.Need-same-length-2
+same-length-2 c = simp length-set (omega arith)
+
+returns-2 : tie.Need-returns-2
+unfolding rowBy
+returns-2 c =
+    let s = c .before .before .before .before .before .before .before .before in
+    let i = s .args .info in
+    let k = c .before .before .before .before .before .before .number in
+    let r = c .before .before .number2 in
+    let q1 : toZ w64 (i .«frame_len») ≡ pos (i .«frame_len») = wide (i .«frame_len») (omega arith) in
+    let q2 : toZ w64 (k .result) ≡ pos (kindNumber (i .kind)) = wide (k .result) (omega arith) ∙ ap pos (k .ensures) in
+    let q3 : toZ w64 (i .«samples_per_frame») ≡ pos (i .«samples_per_frame») = wide (i .«samples_per_frame») (omega arith) in
+    let q4 : toZ w64 (i .«sample_rate») ≡ pos (i .«sample_rate») = wide (i .«sample_rate») (omega arith) in
+    let q5 : toZ w64 (i .channels) ≡ pos (i .channels) = wide (i .channels) (omega arith) in
+    let q6 : toZ w64 (r .result) ≡ pos (bitRateNumber (i .«bit_rate»)) = wide (r .result) (omega arith) ∙ ap pos (r .ensures) in
+    rw (q1, q2, q3, q4, q5, q6)
+    (eight (now (s .args .row)) (pos (i .«frame_len»)) (pos (kindNumber (i .kind))) (pos (i .«samples_per_frame»)) (pos (i .«sample_rate»)) (pos (i .channels)) (pos (bitRateNumber (i .«bit_rate»))) (pos 0) (pos 0) (s .pre .0)
+    ∙ ap (λ (t : Pts). over (rowBy i t) (now (s .args .row))) (sym (c .enum-told .given .1)))
+
+pub write-row-spec : {M : Type 1} → statement M
+write-row-spec =
+    tie.close
+    (tie.spec
+    cast-row
+    slice-set-from-row
+    number-requires
+    cast-row-2
+    slice-set-from-row-2
+    cast-row-3
+    slice-set-from-row-3
+    cast-row-4
+    slice-set-from-row-4
+    cast-row-5
+    slice-set-from-row-5
+    number-requires-2
+    cast-row-6
+    slice-set-from-row-6
+    enum-known-pts
+    slice-set-of-row
+    slice-set-from-t
+    enum-told
+    slice-set-of-row-2
+    slice-set-of-row-3
+    same-length
+    returns
+    same-length-2
+    returns-2)

@@ -1,0 +1,47 @@
+-- The need is not left; or it is, and the head there reads or not.
+use mathlib.Core.Path.{sym, _∙_}
+use mathlib.Core.List.{_++_}
+use Prim.Native.Nat.{_+_, _-_}
+use native.Mathlib.Omega.{arith}
+use lib.ListN.{length, take, drop}
+use denote.Ref.{now}
+use Rattle.heads.specs.Syntax.{headOf}
+use Rattle.splitter.proofs.Heads.{no-room, head-there, none-there}
+use borrow.Author.Needs.{needs}
+use Rattle.splitter.proofs.search.false_sync.Statement.{statement}
+use Rattle.splitter.proofs.search.false_sync.Tie as tie
+
+add-if1 : tie.Need-add-if1
+add-if1 c = search needs
+
+sub-if1 : tie.Need-sub-if1
+sub-if1 c = search needs
+
+returns : tie.Need-returns
+returns c =
+    let s = c .before .before .before .args in
+    no-room (s .need) (s .carried + length (now (s .payload)) - s .end) (headOf (s .syntax) (drop (s .end) (take (s .carried) (now (s .pending)) ++ now (s .payload)))) (omega arith)
+
+head-at-requires : tie.Need-head-at-requires
+head-at-requires c κs = search needs
+
+enum-told : tie.Need-enum-told
+enum-told c = search needs
+
+enum-told-2 : tie.Need-enum-told-2
+enum-told-2 c = search needs
+
+returns-2 : tie.Need-returns-2
+returns-2 c =
+    let s = c .before .before .before .before .before .before .args in
+    head-there (s .need) (s .carried + length (now (s .payload)) - s .end) (headOf (s .syntax) (drop (s .end) (take (s .carried) (now (s .pending)) ++ now (s .payload)))) _ (sym (c .before .before .head-at .ensures) ∙ c .enum-told .given .1)
+
+returns-3 : tie.Need-returns-3
+returns-3 c =
+    let s = c .before .before .before .before .before .before .args in
+    none-there (s .need) (s .carried + length (now (s .payload)) - s .end) (headOf (s .syntax) (drop (s .end) (take (s .carried) (now (s .pending)) ++ now (s .payload)))) (omega arith) _ (sym (c .before .before .head-at .ensures) ∙ c .enum-told2 .given .1)
+
+pub false-sync-spec : {M : Type 1} → statement M
+false-sync-spec =
+    tie.close
+    (tie.spec add-if1 sub-if1 returns head-at-requires enum-told enum-told-2 returns-2 returns-3)

@@ -1,0 +1,102 @@
+-- No head begins at the places that the skip passes, and the bytes that it is lent end where the need is still left.
+use Prim.Native.Nat.{_+_, _-_}
+use native.Mathlib.Omega.{arith}
+use lib.ListN.{length}
+use denote.Ref.{now}
+use Rattle.heads.proofs.Bytes.{known}
+use Rattle.heads.proofs.Promise.{need-least}
+use Rattle.splitter.proofs.Heads.{place-within, unread-low, unread-high}
+use borrow.Author.Needs.{needs}
+use Rattle.splitter.proofs.search.unread_run.Statement.{statement}
+use Rattle.splitter.proofs.search.unread_run.Tie as tie
+
+add-from : tie.Need-add-from
+add-from c = search needs
+
+add-end : tie.Need-add-end
+add-end c = search needs
+
+sub-end : tie.Need-sub-end
+sub-end c = search needs
+
+add-end-2 : tie.Need-add-end-2
+add-end-2 c = omega (arith, need-least (c .before .before .args .syntax))
+
+least-requires : tie.Need-least-requires
+least-requires c κs = search needs
+
+sub-skip-to-sync : tie.Need-sub-skip-to-sync
+sub-skip-to-sync c = search needs
+
+part-skip-to-sync-start : tie.Need-part-skip-to-sync-start
+part-skip-to-sync-start c = search needs
+
+part-skip-to-sync-end : tie.Need-part-skip-to-sync-end
+part-skip-to-sync-end c = search needs
+
+skip-to-sync-requires : tie.Need-skip-to-sync-requires
+skip-to-sync-requires c κs = search needs
+
+add-result : tie.Need-add-result
+add-result c =
+    let s = c .before .before .before .before .before .before .args in
+    omega (arith, place-within (s .syntax) (c .before .before .least .result - (s .at + 1)) (s .at + 1) (c .skip-to-sync .result) (now (s .pending)) (c .skip-to-sync .ensures))
+
+returns : tie.Need-returns
+returns c =
+    let s = c .before .before .before .before .before .before in
+    unread-low (s .args .syntax) (s .args .carried) (now (s .args .pending)) (now (s .args .payload)) (s .pre .0) (s .args .at) (s .args .need) (c .skip-to-sync .result) (s .pre .1) (s .pre .2)
+    (known (now (s .args .pending)) (c .before .before .before .before .before .shared-slice-known .given)) (known (now (s .args .payload)) (c .before .before .before .before .shared-slice-known2 .given))
+    (c .before .before .least .result) (omega arith) (c .before .before .least .ensures) (c .skip-to-sync .ensures)
+
+sub-e : tie.Need-sub-e
+sub-e c = search needs
+
+sub-skip-to-sync-2 : tie.Need-sub-skip-to-sync-2
+sub-skip-to-sync-2 c = search needs
+
+part-skip-to-sync-start-2 : tie.Need-part-skip-to-sync-start-2
+part-skip-to-sync-start-2 c = search needs
+
+part-skip-to-sync-end-2 : tie.Need-part-skip-to-sync-end-2
+part-skip-to-sync-end-2 c = omega (arith, need-least (c .before .before .before .args .syntax))
+
+skip-to-sync-requires-2 : tie.Need-skip-to-sync-requires-2
+skip-to-sync-requires-2 c κs = search needs
+
+add-result-2 : tie.Need-add-result-2
+add-result-2 c =
+    let s = c .before .before .before .before .before .args in
+    let a = s .at + 1 - s .carried in
+    let m = s .carried + length (now (s .payload)) - s .need + 2 - s .carried - a in
+    omega (arith, place-within (s .syntax) m a (c .skip-to-sync2 .result) (now (s .payload)) (c .skip-to-sync2 .ensures))
+
+returns-2 : tie.Need-returns-2
+returns-2 c =
+    let s = c .before .before .before .before .before in
+    unread-high (s .args .syntax) (s .args .carried) (now (s .args .pending)) (now (s .args .payload)) (s .pre .0) (s .args .at) (s .args .need) (c .skip-to-sync2 .result) (s .pre .1) (s .pre .2)
+    (known (now (s .args .pending)) (c .before .before .before .before .shared-slice-known .given)) (known (now (s .args .payload)) (c .before .before .before .shared-slice-known2 .given))
+    (omega arith) (c .skip-to-sync2 .ensures)
+
+pub unread-run-spec : {M : Type 1} → statement M
+unread-run-spec =
+    tie.close
+    (tie.spec
+    add-from
+    add-end
+    sub-end
+    add-end-2
+    least-requires
+    sub-skip-to-sync
+    part-skip-to-sync-start
+    part-skip-to-sync-end
+    skip-to-sync-requires
+    add-result
+    returns
+    sub-e
+    sub-skip-to-sync-2
+    part-skip-to-sync-start-2
+    part-skip-to-sync-end-2
+    skip-to-sync-requires-2
+    add-result-2
+    returns-2)

@@ -1,0 +1,255 @@
+// Push: a payload joins the pending bytes, and what is whole of them is handed back.
+use crate::answer::PushAnswer;
+use crate::answer::Pushed;
+use crate::answer::SplitterRefusal;
+use crate::answer::Written;
+use crate::copy::copy_frame;
+use crate::copy::keep_tail;
+use crate::rows::write_row;
+use crate::search::false_sync;
+use crate::search::head_at;
+use crate::search::unread_run;
+use crate::state::AudioFrameSplitter;
+use crate::state::Limits;
+use crate::timing::Clock;
+use crate::timing::Pts;
+use heads::AudioFrameInfo;
+use heads::AudioSyntax;
+use heads::CodedSyntax;
+use heads::Head;
+ghost use mathlib.Core.Path.{_≡_};
+ghost use mathlib.Core.Bool.{true, _||_};
+ghost use Rattle.splitter.specs.Answer.{pushAnswer};
+ghost use Rattle.splitter.specs.Push.{push, pushTaken, refusal, event, admits};
+ghost use Rattle.splitter.specs.Steps.{Small, lostWalk, givenWalk, startClock, Entered, admission, Settleable, settled};
+
+// What the search finds.
+pub enum Next {
+    // A frame that is handed back.
+    Frame(AudioFrameInfo),
+    // A frame that runs past the end.
+    Partial(AudioFrameInfo),
+    // Fewer bytes than a head needs.
+    End,
+}
+
+// How far a push has come: the place reached in the joined bytes, the bytes lost, and the rows and output bytes written.
+pub struct Walk {
+    pub place: usize,
+    pub lost: usize,
+    pub rows: usize,
+    pub bytes: usize,
+}
+
+// Whether a push may begin, and with which syntax.
+pub enum Entry {
+    Open(AudioSyntax),
+    Closed(PushAnswer),
+}
+
+impl Walk {
+    // So many bytes are lost.
+    fn lose(self, n: usize) -> Walk
+        requires { ⌜ Small self n ⌝ }
+        ensures { λ r. ⌜ r ≡ lostWalk self n ⌝ }
+    {
+        Walk {
+            place: self.place + n,
+            lost: self.lost + n,
+            rows: self.rows,
+            bytes: self.bytes,
+        }
+    }
+
+    // A frame of so many bytes was handed back.
+    fn give(self, n: usize) -> Walk
+        requires { ⌜ Small self n ⌝ }
+        ensures { λ r. ⌜ r ≡ givenWalk self n ⌝ }
+    {
+        Walk {
+            place: self.place + n,
+            lost: self.lost,
+            rows: self.rows + 1,
+            bytes: self.bytes + n,
+        }
+    }
+}
+
+fn either(a: bool, b: bool) -> bool
+    ensures { λ r. ⌜ r ≡ (a || b) ⌝ }
+{
+    if a { true } else { b }
+}
+
+impl AudioFrameSplitter {
+    // Takes a payload: hands back the frames whose last byte it brings, and keeps what comes after them.
+    pub fn push(
+        self,
+        payload: &[u8],
+        pts: Pts,
+        pending: &mut [u8],
+        out: &mut [u8],
+        rows: &mut [i64],
+    ) -> Pushed
+        ensures { λ r. ⌜ pushAnswer (r .answer) ≡ push self (event (now (payload .entry)) pts (now (pending .entry)) (now (out .entry)) (now (rows .entry))) .answer ⌝ }
+        ensures { λ r. ⌜ r .splitter ≡ push self (event (now (payload .entry)) pts (now (pending .entry)) (now (out .entry)) (now (rows .entry))) .state ⌝ }
+        ensures { λ _. ⌜ now (pending .exit) ≡ push self (event (now (payload .entry)) pts (now (pending .entry)) (now (out .entry)) (now (rows .entry))) .pend ⌝ }
+        ensures { λ _. ⌜ now (out .exit) ≡ push self (event (now (payload .entry)) pts (now (pending .entry)) (now (out .entry)) (now (rows .entry))) .out ⌝ }
+        ensures { λ _. ⌜ now (rows .exit) ≡ push self (event (now (payload .entry)) pts (now (pending .entry)) (now (out .entry)) (now (rows .entry))) .rows ⌝ }
+    {
+        match self.enter(payload, pts, pending.len(), out.len(), rows.len()) {
+            Entry::Open(syntax) => self.push_taken(syntax, payload, pts, pending, out, rows),
+            Entry::Closed(answer) => Pushed {
+                answer,
+                splitter: self,
+            },
+        }
+    }
+
+    // A push that is taken: the search goes from place to place, and each frame that it finds is handed back.
+    fn push_taken(
+        self,
+        syntax: AudioSyntax,
+        payload: &[u8],
+        pts: Pts,
+        pending: &mut [u8],
+        out: &mut [u8],
+        rows: &mut [i64],
+    ) -> Pushed
+        requires { ⌜ refusal self (event (now payload) pts (now pending) (now out) (now rows)) ≡ 0 ⌝ }
+        ensures { λ r. ⌜ pushAnswer (r .answer) ≡ pushTaken true syntax self (event (now (payload .entry)) pts (now (pending .entry)) (now (out .entry)) (now (rows .entry))) .answer ⌝ }
+        ensures { λ r. ⌜ r .splitter ≡ pushTaken true syntax self (event (now (payload .entry)) pts (now (pending .entry)) (now (out .entry)) (now (rows .entry))) .state ⌝ }
+        ensures { λ _. ⌜ now (pending .exit) ≡ pushTaken true syntax self (event (now (payload .entry)) pts (now (pending .entry)) (now (out .entry)) (now (rows .entry))) .pend ⌝ }
+        ensures { λ _. ⌜ now (out .exit) ≡ pushTaken true syntax self (event (now (payload .entry)) pts (now (pending .entry)) (now (out .entry)) (now (rows .entry))) .out ⌝ }
+        ensures { λ _. ⌜ now (rows .exit) ≡ pushTaken true syntax self (event (now (payload .entry)) pts (now (pending .entry)) (now (out .entry)) (now (rows .entry))) .rows ⌝ }
+    {
+        let need = syntax.header_len();
+        let carried = self.pending;
+        let total = carried + payload.len();
+        let mut clock = self.clock(pts);
+        let mut walk = Walk {
+            place: 0,
+            lost: 0,
+            rows: 0,
+            bytes: 0,
+        };
+        let last = loop {
+            let next = loop {
+                let place = walk.place;
+                if total - place < need {
+                    break Next::End;
+                }
+                let Head::Read(info) = head_at(syntax, &pending[..], carried, payload, place) else {
+                    let n = unread_run(syntax, need, &pending[..], carried, payload, place);
+                    walk = walk.lose(n);
+                    clock = clock.voided(true);
+                    continue;
+                };
+                if info.frame_len < need {
+                    walk = walk.lose(1);
+                    continue;
+                }
+                if total - place < info.frame_len {
+                    break Next::Partial(info);
+                }
+                let end = place + info.frame_len;
+                if false_sync(syntax, need, &pending[..], carried, payload, end) {
+                    walk = walk.lose(1);
+                    clock = clock.voided(true);
+                    continue;
+                }
+                break Next::Frame(info);
+            };
+            let Next::Frame(info) = next else {
+                break next;
+            };
+            let place = walk.place;
+            let at = walk.bytes;
+            let row = 8 * walk.rows;
+            let stamped = clock.give(place < carried, info);
+            let stamp = stamped.pts;
+            copy_frame(
+                &mut out[at..],
+                &pending[..],
+                carried,
+                payload,
+                place,
+                info.frame_len,
+            );
+            write_row(&mut rows[row..], info, stamp);
+            let after = stamped.clock;
+            clock = after;
+            walk = walk.give(info.frame_len);
+        };
+        keep_tail(pending, carried, payload, walk.place);
+        self.settle(walk, clock, last, total)
+    }
+
+    // The refusals in their order, and whether an unlocked splitter takes the payload.
+    fn enter(self, payload: &[u8], pts: Pts, pending: usize, out: usize, rows: usize) -> Entry
+        ensures { λ r. ⌜ Entered self (now (payload .entry)) pts pending out rows r ⌝ }
+    {
+        let CodedSyntax::Known(syntax) = AudioSyntax::from_code(self.syntax) else {
+            return Entry::Closed(PushAnswer::Refused(SplitterRefusal::SyntaxCode));
+        };
+        match self.limits(payload.len(), pts, pending, out, rows) {
+            Limits::Broken(refusal) => Entry::Closed(PushAnswer::Refused(refusal)),
+            Limits::Kept => self.admit(syntax, payload),
+        }
+    }
+
+    // Unlocked, with nothing pending and a payload whose head doesn't read: not taken.
+    fn admit(self, syntax: AudioSyntax, payload: &[u8]) -> Entry
+        ensures { λ r. ⌜ r ≡ admission (admits syntax self (now (payload .entry))) syntax ⌝ }
+    {
+        if either(self.locked, self.pending > 0) {
+            return Entry::Open(syntax);
+        }
+        match syntax.parse(payload) {
+            Head::Read(_) => Entry::Open(syntax),
+            Head::Refused(_) => Entry::Closed(PushAnswer::NotTaken),
+        }
+    }
+
+    // The clock of a payload with that timestamp.
+    fn clock(self, pts: Pts) -> Clock
+        ensures { λ r. ⌜ r ≡ startClock self pts ⌝ }
+    {
+        let timing = self.timing;
+        Clock {
+            new_pts: pts,
+            timing,
+        }
+    }
+
+    // The answer of a push that was taken, and the state after it.
+    fn settle(self, walk: Walk, clock: Clock, last: Next, total: usize) -> Pushed
+        requires { ⌜ Settleable self walk clock last total ⌝ }
+        ensures { λ r. ⌜ r ≡ settled self walk clock last total ⌝ }
+    {
+        let place = walk.place;
+        let left = total - place;
+        let early = place < self.pending;
+        let timing = match last {
+            Next::Partial(info) => clock.keep(early, info),
+            Next::Frame(_) => clock.keep_tail(early, left),
+            Next::End => clock.keep_tail(early, left),
+        };
+        let locked = either(self.locked, walk.rows > 0);
+        let written = Written {
+            rows: walk.rows,
+            bytes: walk.bytes,
+        };
+        let splitter = AudioFrameSplitter {
+            syntax: self.syntax,
+            pending: left,
+            timing,
+            discarded: self.discarded + walk.lost as u64,
+            locked,
+        };
+        Pushed {
+            answer: PushAnswer::Taken(written),
+            splitter,
+        }
+    }
+}

@@ -1,0 +1,11 @@
+//! Lists of calls for a splitter, made from one seed: streams and damaged streams cut into payloads,
+//! states at their bounds, short streams cut everywhere.
+
+pub mod frames;
+pub mod large;
+pub mod malformed;
+pub mod sequences;
+pub mod short;
+pub mod soup;
+pub mod states;
+pub mod talk;
