@@ -1,14 +1,13 @@
 // The calls that the lines ask for.
 use crate::buffers::OUT_LEN;
 use crate::buffers::PENDING_LEN;
-use crate::buffers::ROW_LEN;
 use crate::buffers::ROWS_LEN;
 use crate::buffers::are_rows_intact;
-use crate::buffers::fill_out;
-use crate::buffers::fill_rows;
 use crate::buffers::is_out_intact;
 use crate::buffers::is_pending_kept;
+use crate::buffers::set_pending;
 use crate::octets::PAYLOAD_MAX;
+use crate::outcome::Answer;
 use crate::outcome::Outcome;
 use crate::outcome::put_answer;
 use crate::output::BLOCK_LEN;
@@ -16,6 +15,9 @@ use crate::output::Output;
 use crate::request::Lent;
 use crate::request::Request;
 use crate::request::parse_request;
+use crate::rest::is_rest_intact;
+use crate::rest::restore;
+use crate::rest::within;
 use splitter::Anchored;
 use splitter::AudioFrameSplitter;
 use splitter::Flushed;
@@ -28,10 +30,7 @@ ghost use Prim.Native.Nat.{_≤_};
 ghost use lib.ListN.{length};
 ghost use Rattle.replay.specs.Bounds.{Bounded, Lendable, Fitting};
 
-// To compare all of the buffers after each call would take most of the time. After a call it is done up to this many numbers past what was
-// lent; the whole is compared after every 64th call, and at the end of the input.
-const MARGIN: usize = 64;
-
+// After so many calls the whole of the buffers is compared.
 const SWEEP_EVERY: u32 = 64;
 
 pub struct Replay {
@@ -90,7 +89,7 @@ impl Replay {
         }
     }
 
-    // The calls that are lent nothing.
+    // The calls that are lent nothing, and what is no call.
     fn answer_quiet(
         self,
         block: &mut [u8; BLOCK_LEN],
@@ -169,19 +168,31 @@ impl Replay {
         requires { ⌜ Bounded (self .output) ⌝ }
         ensures { λ r. ⌜ Bounded (r .output) ⌝ }
     {
-        let output = self.output;
         let written = Written { rows: 0, bytes: 0 };
-        let answered = put_answer(
-            output,
-            block,
+        let answer = Answer {
             outcome,
             splitter,
             written,
-            pending,
-            out,
-            rows,
-            true,
-        );
+            intact: true,
+        };
+        self.reply(block, answer, pending, out, rows)
+    }
+
+    // Writes the answer, and goes on with the state that the call handed back.
+    fn reply(
+        self,
+        block: &mut [u8; BLOCK_LEN],
+        answer: Answer,
+        pending: &[u8; PENDING_LEN],
+        out: &[u8; OUT_LEN],
+        rows: &[i64; ROWS_LEN],
+    ) -> Self
+        requires { ⌜ Bounded (self .output) × Fitting (answer .written) ⌝ }
+        ensures { λ r. ⌜ Bounded (r .output) ⌝ }
+    {
+        let output = self.output;
+        let splitter = answer.splitter;
+        let answered = put_answer(output, block, answer, pending, out, rows);
         Replay {
             splitter,
             output: answered,
@@ -267,24 +278,24 @@ impl Replay {
         let written = within(claimed, lent);
         let sweep = self.until_sweep == 0;
         let intact = pending_kept && is_rest_intact(claimed, written, lent, sweep, out, rows);
-        let output = self.output;
-        let answered = put_answer(
-            output,
-            block,
+        let answer = Answer {
             outcome,
             splitter,
             written,
-            pending,
-            out,
-            rows,
             intact,
-        );
+        };
+        let replay = self.reply(block, answer, pending, out, rows);
         restore(written, intact, out, rows);
-        Replay {
-            splitter,
-            output: answered,
-            until_sweep: next_turn(self.until_sweep),
-        }
+        replay.next_turn()
+    }
+
+    fn next_turn(mut self) -> Self
+        requires { ⌜ Bounded (self .output) ⌝ }
+        ensures { λ r. ⌜ Bounded (r .output) ⌝ }
+    {
+        let left = self.until_sweep;
+        self.until_sweep = if left == 0 { SWEEP_EVERY - 1 } else { left - 1 };
+        self
     }
 
     // Compares the whole once more, after the last call. A line of its own says that something was changed.
@@ -302,21 +313,6 @@ impl Replay {
             return output;
         }
         output.put_text(block, b"#\n")
-    }
-}
-
-fn next_turn(until_sweep: u32) -> u32 {
-    if until_sweep == 0 {
-        return SWEEP_EVERY - 1;
-    }
-    until_sweep - 1
-}
-
-fn set_pending(pending: &mut [u8; PENDING_LEN], bytes: &[u8; PAYLOAD_MAX], count: usize)
-    requires { ⌜ count ≤ 8200 ⌝ }
-{
-    for i in 0..count {
-        pending[i] = bytes[i];
     }
 }
 
@@ -364,68 +360,4 @@ fn flush_lent(
         &mut out[0..out_len],
         &mut rows[0..rows_len],
     )
-}
-
-// What a call says that it wrote, as far as it can be: no contract of the splitter is relied on here.
-fn within(claimed: Written, lent: Lent) -> Written
-    requires { ⌜ Lendable lent ⌝ }
-    ensures { λ r. ⌜ Fitting r ⌝ }
-{
-    Written {
-        rows: least(claimed.rows, lent.rows / ROW_LEN),
-        bytes: least(claimed.bytes, lent.out),
-    }
-}
-
-fn least(a: usize, b: usize) -> usize
-    ensures { λ r. ⌜ r ≤ b ⌝ }
-{
-    if a < b { a } else { b }
-}
-
-// Whether the output and the rows kept their pattern past what was written, and no more was said to be written than could be.
-fn is_rest_intact(
-    claimed: Written,
-    written: Written,
-    lent: Lent,
-    sweep: bool,
-    out: &[u8; OUT_LEN],
-    rows: &[i64; ROWS_LEN],
-) -> bool
-    requires { ⌜ Lendable lent × Fitting written ⌝ }
-{
-    if claimed.rows != written.rows || claimed.bytes != written.bytes {
-        return false;
-    }
-    let out_end = reach(lent.out, OUT_LEN, sweep);
-    let rows_end = reach(lent.rows, ROWS_LEN, sweep);
-    is_out_intact(out, written.bytes, out_end)
-        && are_rows_intact(rows, written.rows * ROW_LEN, rows_end)
-}
-
-// Up to where a buffer of len numbers is compared.
-fn reach(lent: usize, len: usize, sweep: bool) -> usize
-    requires { ⌜ lent ≤ len ⌝ }
-    ensures { λ r. ⌜ r ≤ len ⌝ }
-{
-    if sweep {
-        return len;
-    }
-    if len - lent < MARGIN {
-        return len;
-    }
-    lent + MARGIN
-}
-
-// Puts the pattern back: where the call wrote, or everywhere once something else was changed.
-fn restore(written: Written, intact: bool, out: &mut [u8; OUT_LEN], rows: &mut [i64; ROWS_LEN])
-    requires { ⌜ Fitting written ⌝ }
-{
-    if intact {
-        fill_out(out, written.bytes);
-        fill_rows(rows, written.rows * ROW_LEN);
-    } else {
-        fill_out(out, OUT_LEN);
-        fill_rows(rows, ROWS_LEN);
-    }
 }

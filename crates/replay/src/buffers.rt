@@ -1,5 +1,5 @@
-// The buffers that are lent to the calls. Between two calls the output and the rows hold a pattern, so that a number that a call wrote where
-// it should not shows.
+// The buffers that are lent to the calls. Between two calls the output and the rows hold a pattern, by which it shows where a call wrote.
+use crate::octets::PAYLOAD_MAX;
 ghost use Prim.Native.Nat.{_≤_, _<_};
 
 pub const PENDING_LEN: usize = 8200;
@@ -11,7 +11,7 @@ pub const ROWS_LEN: usize = 84280;
 // How many numbers a row has.
 pub const ROW_LEN: usize = 8;
 
-// In 32 bits, in which several bytes are compared at once.
+// In 32 bits, so that the compiler can compare several bytes at once.
 fn out_pattern(i: usize) -> u8
     requires { ⌜ i < 73800 ⌝ }
 {
@@ -81,4 +81,13 @@ pub fn is_pending_kept(
         }
     }
     same
+}
+
+// Sets the front of the pending buffer to the first count bytes.
+pub fn set_pending(pending: &mut [u8; PENDING_LEN], bytes: &[u8; PAYLOAD_MAX], count: usize)
+    requires { ⌜ count ≤ 8200 ⌝ }
+{
+    for i in 0..count {
+        pending[i] = bytes[i];
+    }
 }

@@ -9,6 +9,7 @@ mod outcome;
 mod output;
 mod print;
 mod request;
+mod rest;
 mod session;
 mod state;
 

@@ -25,11 +25,13 @@ pub enum Short {
     NoShort,
 }
 
+// A signed number of 64 bits.
 pub enum Signed {
     Value { value: i64, next: usize },
     NoSigned,
 }
 
+// A timestamp, or that there is none.
 pub enum Stamp {
     Read { pts: Pts, next: usize },
     NoStamp,

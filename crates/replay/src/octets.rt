@@ -108,8 +108,7 @@ fn parse_times(line: &[u8], at: usize) -> Number
     }
 }
 
-// Joins the len bytes that stand behind the first count so many times. The bytes for which there is no room are not joined, and nor is
-// any of the others.
+// Joins the len bytes that stand behind the first count, so many times. Where one of the times has no room, there are no bytes.
 fn join_repeated(
     bytes: &mut [u8; PAYLOAD_MAX],
     count: usize,

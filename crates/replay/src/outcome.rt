@@ -51,30 +51,55 @@ impl Outcome {
     }
 }
 
+// What is said of a call.
+pub struct Answer {
+    pub outcome: Outcome,
+    // The state that it handed back.
+    pub splitter: AudioFrameSplitter,
+    // How much of the buffers is shown as written.
+    pub written: Written,
+    // Whether everything else stayed as it was.
+    pub intact: bool,
+}
+
 // The answer to a call, closed by a line feed. Of the buffers it shows what was written, and the pending bytes.
 pub fn put_answer(
     output: Output,
     block: &mut [u8; BLOCK_LEN],
-    outcome: Outcome,
-    splitter: AudioFrameSplitter,
-    written: Written,
+    answer: Answer,
     pending: &[u8; PENDING_LEN],
     out: &[u8; OUT_LEN],
     rows: &[i64; ROWS_LEN],
-    intact: bool,
+) -> Output
+    requires { ⌜ Bounded output × Fitting (answer .written) ⌝ }
+    ensures { λ r. ⌜ Bounded r ⌝ }
+{
+    let outcome = answer.outcome;
+    let splitter = answer.splitter;
+    let written = answer.written;
+    let after_outcome = put_outcome(output, block, outcome).put_byte(block, b' ');
+    let after_state = put_state(after_outcome, block, splitter).put_byte(block, b' ');
+    let len = splitter.pending_bytes();
+    let after_buffers = put_buffers(after_state, block, written, len, pending, out, rows);
+    put_rest(after_buffers, block, answer.intact).put_byte(block, b'\n')
+}
+
+// The rows and the output bytes that were written, and the pending bytes, with a space behind each.
+fn put_buffers(
+    output: Output,
+    block: &mut [u8; BLOCK_LEN],
+    written: Written,
+    len: usize,
+    pending: &[u8; PENDING_LEN],
+    out: &[u8; OUT_LEN],
+    rows: &[i64; ROWS_LEN],
 ) -> Output
     requires { ⌜ Bounded output × Fitting written ⌝ }
     ensures { λ r. ⌜ Bounded r ⌝ }
 {
-    let after_outcome = put_outcome(output, block, outcome).put_byte(block, b' ');
-    let after_state = put_state(after_outcome, block, splitter).put_byte(block, b' ');
-    let after_rows = put_rows(after_state, block, rows, written.rows).put_byte(block, b' ');
+    let after_rows = put_rows(output, block, rows, written.rows).put_byte(block, b' ');
     let after_out = put_written(after_rows, block, written.bytes, out).put_byte(block, b' ');
-    let after_pending = put_pending(after_out, block, splitter.pending_bytes(), pending).put_byte(
-        block,
-        b' ',
-    );
-    put_rest(after_pending, block, intact).put_byte(block, b'\n')
+    put_pending(after_out, block, len, pending).put_byte(block, b' ')
 }
 
 fn put_outcome(output: Output, block: &mut [u8; BLOCK_LEN], outcome: Outcome) -> Output

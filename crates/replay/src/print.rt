@@ -6,31 +6,31 @@ use crate::output::Output;
 ghost use Prim.Native.Nat.{_+_, _*_, _≤_, _<_};
 ghost use Rattle.replay.specs.Bounds.{Bounded};
 
-pub fn put_decimal(out: Output, block: &mut [u8; BLOCK_LEN], n: u64) -> Output
-    requires { ⌜ Bounded out ⌝ }
+pub fn put_decimal(output: Output, block: &mut [u8; BLOCK_LEN], n: u64) -> Output
+    requires { ⌜ Bounded output ⌝ }
     ensures { λ r. ⌜ Bounded r ⌝ }
 {
     let mut digits = [0u8; 20];
     let count = io::decimal(n, &mut digits);
-    out.put_text(block, &digits[..count])
+    output.put_text(block, &digits[..count])
 }
 
 // A number, and the byte behind it.
-pub fn put_field(out: Output, block: &mut [u8; BLOCK_LEN], n: u64, end: u8) -> Output
-    requires { ⌜ Bounded out ⌝ }
+pub fn put_field(output: Output, block: &mut [u8; BLOCK_LEN], n: u64, end: u8) -> Output
+    requires { ⌜ Bounded output ⌝ }
     ensures { λ r. ⌜ Bounded r ⌝ }
 {
-    put_decimal(out, block, n).put_byte(block, end)
+    put_decimal(output, block, n).put_byte(block, end)
 }
 
-pub fn put_signed(out: Output, block: &mut [u8; BLOCK_LEN], x: i64) -> Output
-    requires { ⌜ Bounded out ⌝ }
+pub fn put_signed(output: Output, block: &mut [u8; BLOCK_LEN], x: i64) -> Output
+    requires { ⌜ Bounded output ⌝ }
     ensures { λ r. ⌜ Bounded r ⌝ }
 {
     if x < 0 {
-        return put_decimal(out.put_byte(block, b'-'), block, magnitude(x));
+        return put_decimal(output.put_byte(block, b'-'), block, magnitude(x));
     }
-    put_decimal(out, block, magnitude(x))
+    put_decimal(output, block, magnitude(x))
 }
 
 // How far a number is from 0. A negative one goes by way of -1 - x, which fits also where x is -2^63.
@@ -43,25 +43,26 @@ fn magnitude(x: i64) -> u64 {
 }
 
 // Two digits for each byte, or a dot where there is none.
-pub fn put_octets(out: Output, block: &mut [u8; BLOCK_LEN], bytes: &[u8]) -> Output
-    requires { ⌜ Bounded out ⌝ }
+pub fn put_octets(output: Output, block: &mut [u8; BLOCK_LEN], bytes: &[u8]) -> Output
+    requires { ⌜ Bounded output ⌝ }
     ensures { λ r. ⌜ Bounded r ⌝ }
 {
     if bytes.len() == 0 {
-        return out.put_byte(block, b'.');
+        return output.put_byte(block, b'.');
     }
-    let mut text = out;
+    let mut text = output;
     for i in 0..bytes.len() {
         text = put_octet(text, block, bytes[i]);
     }
     text
 }
 
-fn put_octet(out: Output, block: &mut [u8; BLOCK_LEN], byte: u8) -> Output
-    requires { ⌜ Bounded out ⌝ }
+fn put_octet(output: Output, block: &mut [u8; BLOCK_LEN], byte: u8) -> Output
+    requires { ⌜ Bounded output ⌝ }
     ensures { λ r. ⌜ Bounded r ⌝ }
 {
-    out.put_byte(block, digit(byte / 16))
+    output
+        .put_byte(block, digit(byte / 16))
         .put_byte(block, digit(byte % 16))
 }
 
@@ -73,15 +74,15 @@ fn digit(n: u8) -> u8
 
 // The first count rows, in brackets.
 pub fn put_rows(
-    out: Output,
+    output: Output,
     block: &mut [u8; BLOCK_LEN],
     rows: &[i64; ROWS_LEN],
     count: usize,
 ) -> Output
-    requires { ⌜ Bounded out × (count * 8 ≤ 84280) ⌝ }
+    requires { ⌜ Bounded output × (count * 8 ≤ 84280) ⌝ }
     ensures { λ r. ⌜ Bounded r ⌝ }
 {
-    let mut text = out.put_byte(block, b'[');
+    let mut text = output.put_byte(block, b'[');
     for k in 0..count {
         text = put_row(put_separator(text, block, k), block, rows, k * ROW_LEN);
     }
@@ -89,22 +90,22 @@ pub fn put_rows(
 }
 
 // What stands before row k: a semicolon, but for the first row.
-fn put_separator(out: Output, block: &mut [u8; BLOCK_LEN], k: usize) -> Output
-    requires { ⌜ Bounded out ⌝ }
+fn put_separator(output: Output, block: &mut [u8; BLOCK_LEN], k: usize) -> Output
+    requires { ⌜ Bounded output ⌝ }
     ensures { λ r. ⌜ Bounded r ⌝ }
 {
     if k == 0 {
-        return out;
+        return output;
     }
-    out.put_byte(block, b';')
+    output.put_byte(block, b';')
 }
 
 // The row from place at on.
-fn put_row(out: Output, block: &mut [u8; BLOCK_LEN], rows: &[i64; ROWS_LEN], at: usize) -> Output
-    requires { ⌜ Bounded out × (at + 8 ≤ 84280) ⌝ }
+fn put_row(output: Output, block: &mut [u8; BLOCK_LEN], rows: &[i64; ROWS_LEN], at: usize) -> Output
+    requires { ⌜ Bounded output × (at + 8 ≤ 84280) ⌝ }
     ensures { λ r. ⌜ Bounded r ⌝ }
 {
-    let mut text = put_signed(out, block, rows[at]);
+    let mut text = put_signed(output, block, rows[at]);
     for i in 1..ROW_LEN {
         text = put_signed(text.put_byte(block, b','), block, rows[at + i]);
     }

@@ -61,10 +61,14 @@ pub fn parse_state(line: &[u8], at: usize) -> StateText {
     else {
         return StateText::NoState;
     };
+    parse_state_end(line, timing_end, syntax, pending, timing)
+}
+
+fn parse_state_end(line: &[u8], at: usize, syntax: u32, pending: u64, timing: Timing) -> StateText {
     let Number::Value {
         value: discarded,
         next: discarded_end,
-    } = number_after(line, timing_end, b' ', u64::MAX)
+    } = number_after(line, at, b' ', u64::MAX)
     else {
         return StateText::NoState;
     };
@@ -161,12 +165,16 @@ fn parse_anchor_numbers(line: &[u8], at: usize, pts: i64) -> AnchorText {
 }
 
 // What the splitter answers where there is a question for it, and the rest from its fields.
-pub fn put_state(out: Output, block: &mut [u8; BLOCK_LEN], splitter: AudioFrameSplitter) -> Output
-    requires { ⌜ Bounded out ⌝ }
+pub fn put_state(
+    output: Output,
+    block: &mut [u8; BLOCK_LEN],
+    splitter: AudioFrameSplitter,
+) -> Output
+    requires { ⌜ Bounded output ⌝ }
     ensures { λ r. ⌜ Bounded r ⌝ }
 {
     let timing = splitter.timing;
-    let after_code = put_field(out, block, splitter.syntax() as u64, b'/');
+    let after_code = put_field(output, block, splitter.syntax() as u64, b'/');
     let after_pending = put_field(after_code, block, splitter.pending_bytes() as u64, b'/');
     let after_timing = put_timing(after_pending, block, timing);
     let after_discarded = put_field(after_timing, block, splitter.discarded_bytes(), b'/');
@@ -176,41 +184,41 @@ pub fn put_state(out: Output, block: &mut [u8; BLOCK_LEN], splitter: AudioFrameS
     after_discarded.put_byte(block, b'0')
 }
 
-fn put_timing(out: Output, block: &mut [u8; BLOCK_LEN], timing: Timing) -> Output
-    requires { ⌜ Bounded out ⌝ }
+fn put_timing(output: Output, block: &mut [u8; BLOCK_LEN], timing: Timing) -> Output
+    requires { ⌜ Bounded output ⌝ }
     ensures { λ r. ⌜ Bounded r ⌝ }
 {
     let pts = timing.residual_pts;
     let anchor = timing.anchor;
-    let after_pts = put_pts(out, block, pts).put_byte(block, b'/');
+    let after_pts = put_pts(output, block, pts).put_byte(block, b'/');
     put_anchor(after_pts, block, anchor).put_byte(block, b'/')
 }
 
-fn put_pts(out: Output, block: &mut [u8; BLOCK_LEN], pts: Pts) -> Output
-    requires { ⌜ Bounded out ⌝ }
+fn put_pts(output: Output, block: &mut [u8; BLOCK_LEN], pts: Pts) -> Output
+    requires { ⌜ Bounded output ⌝ }
     ensures { λ r. ⌜ Bounded r ⌝ }
 {
     match pts {
-        Pts::At(time) => put_signed(out, block, time),
-        Pts::Absent => out.put_byte(block, b'-'),
+        Pts::At(time) => put_signed(output, block, time),
+        Pts::Absent => output.put_byte(block, b'-'),
     }
 }
 
-fn put_anchor(out: Output, block: &mut [u8; BLOCK_LEN], anchored: Anchored) -> Output
-    requires { ⌜ Bounded out ⌝ }
+fn put_anchor(output: Output, block: &mut [u8; BLOCK_LEN], anchored: Anchored) -> Output
+    requires { ⌜ Bounded output ⌝ }
     ensures { λ r. ⌜ Bounded r ⌝ }
 {
     match anchored {
-        Anchored::To(anchor) => put_anchor_numbers(out, block, anchor),
-        Anchored::Free => out.put_byte(block, b'-'),
+        Anchored::To(anchor) => put_anchor_numbers(output, block, anchor),
+        Anchored::Free => output.put_byte(block, b'-'),
     }
 }
 
-fn put_anchor_numbers(out: Output, block: &mut [u8; BLOCK_LEN], anchor: Anchor) -> Output
-    requires { ⌜ Bounded out ⌝ }
+fn put_anchor_numbers(output: Output, block: &mut [u8; BLOCK_LEN], anchor: Anchor) -> Output
+    requires { ⌜ Bounded output ⌝ }
     ensures { λ r. ⌜ Bounded r ⌝ }
 {
-    let after_pts = put_signed(out, block, anchor.pts).put_byte(block, b':');
+    let after_pts = put_signed(output, block, anchor.pts).put_byte(block, b':');
     let after_frames = put_field(after_pts, block, anchor.frames_since as u64, b':');
     let after_samples = put_field(after_frames, block, anchor.samples_per_frame as u64, b':');
     put_decimal(after_samples, block, anchor.sample_rate as u64)

@@ -21,7 +21,11 @@ parse-number-requires : tie.Need-parse-number-requires
 parse-number-requires c κs = search needs
 
 returns-2 : tie.Need-returns-2
-returns-2 c = read-before (c .before .before .before .before .before .before .args .most) (c .parse-number .result) (omega (arith, passed (c .before .before .start .given .1) (c .before .before .before .before .skip .ensures))) (c .parse-number .ensures)
+returns-2 c =
+    let start = c .before .before in
+    read-before (start .before .before .before .before .args .most) (c .parse-number .result)
+    (omega (arith, passed (start .start .given .1) (start .before .before .skip .ensures)))
+    (c .parse-number .ensures)
 
 pub number-after-spec : {M : Type 1} → statement M
 number-after-spec =

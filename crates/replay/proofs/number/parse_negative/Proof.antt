@@ -20,7 +20,9 @@ returns : tie.Need-returns
 returns c = search needs
 
 negative-requires : tie.Need-negative-requires
-negative-requires c κs = read (c .before .value .given .1) (c .before .before .before .parse-number .ensures) .0
+negative-requires c κs =
+    let value = c .before in
+    read (value .value .given .1) (value .before .before .parse-number .ensures) .0
 
 returns-2 : tie.Need-returns-2
 returns-2 c = search needs

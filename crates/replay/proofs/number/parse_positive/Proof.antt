@@ -18,7 +18,9 @@ returns : tie.Need-returns
 returns c = search needs
 
 cast-t6 : tie.Need-cast-t6
-cast-t6 c = record { sfits = omega (arith, read (c .before .value .given .1) (c .before .before .before .parse-number .ensures) .0) }
+cast-t6 c =
+    let value = c .before in
+    record { sfits = omega (arith, read (value .value .given .1) (value .before .before .parse-number .ensures) .0) }
 
 returns-2 : tie.Need-returns-2
 returns-2 c = search needs

@@ -18,7 +18,9 @@ returns : tie.Need-returns
 returns c = search needs
 
 cast-t7 : tie.Need-cast-t7
-cast-t7 c = omega (arith, read (c .before .value .given .1) (c .before .before .before .number-after .ensures) .0)
+cast-t7 c =
+    let value = c .before in
+    omega (arith, read (value .value .given .1) (value .before .before .number-after .ensures) .0)
 
 returns-2 : tie.Need-returns-2
 returns-2 c = search needs

@@ -29,10 +29,14 @@ returns : tie.Need-returns Inv-loop μ-loop
 returns c = search needs
 
 loop-less : tie.Need-loop-less Inv-loop μ-loop
-loop-less c = omega (arith, joined (c .before .more .given .1) (c .before .before .before .parse-word .ensures) .1)
+loop-less c =
+    let more = c .before in
+    omega (arith, joined (more .more .given .1) (more .before .before .parse-word .ensures) .1)
 
 loop-again : tie.Need-loop-again Inv-loop μ-loop
-loop-again c = joined (c .before .more .given .1) (c .before .before .before .parse-word .ensures) .0
+loop-again c =
+    let more = c .before in
+    joined (more .more .given .1) (more .before .before .parse-word .ensures) .0
 
 returns-2 : tie.Need-returns-2 Inv-loop μ-loop
 returns-2 c = search needs

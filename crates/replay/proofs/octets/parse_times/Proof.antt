@@ -18,7 +18,11 @@ enum-told : tie.Need-enum-told
 enum-told c = search needs
 
 returns : tie.Need-returns
-returns c = read-before 18446744073709551615 (c .parse-number .result) (omega (arith, passed (c .before .before .digits .given .1) (c .before .before .before .before .skip .ensures))) (c .parse-number .ensures)
+returns c =
+    let digits = c .before .before in
+    read-before 18446744073709551615 (c .parse-number .result)
+    (omega (arith, passed (digits .digits .given .1) (digits .before .before .skip .ensures)))
+    (c .parse-number .ensures)
 
 returns-2 : tie.Need-returns-2
 returns-2 c = search needs

@@ -47,7 +47,13 @@ enum-told-3 : tie.Need-enum-told-3
 enum-told-3 c = search needs
 
 returns-4 : tie.Need-returns-4
-returns-4 c = (omega (arith, ap bytesOf (c .before .count .given .1), c .before .before .before .join-repeated .ensures), omega (arith, passed (c .before .before .before .before .before .before .before .before .before .before .before .before .before .before .start .given .1) (c .before .before .before .before .before .before .before .before .before .before .before .before .before .before .before .before .skip .ensures), c .before .before .before .before .before .before .before .before .before .before .before .parse-octets .ensures, read (c .before .before .before .before .before .before .times .given .1) (c .before .before .before .before .before .before .before .before .parse-times .ensures) .1))
+returns-4 c =
+    let times = c .before .before .before .before .before .before in
+    let octets = times .before .before .before .before .before in
+    let start = octets .before .before .before in
+    let begun = passed (start .start .given .1) (start .before .before .skip .ensures) in
+    let timed = read (times .times .given .1) (times .before .before .parse-times .ensures) in
+    (omega (arith, ap bytesOf (c .before .count .given .1), c .before .before .before .join-repeated .ensures), omega (arith, octets .parse-octets .ensures, timed .1))
 
 returns-5 : tie.Need-returns-5
 returns-5 c = search needs

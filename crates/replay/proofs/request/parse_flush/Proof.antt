@@ -20,7 +20,9 @@ returns-2 : tie.Need-returns-2
 returns-2 c = search needs
 
 returns-3 : tie.Need-returns-3
-returns-3 c = lendable (c .before .before .lent .given .1) (c .before .before .before .before .parse-lent .ensures)
+returns-3 c =
+    let lent = c .before .before in
+    lendable (lent .lent .given .1) (lent .before .before .parse-lent .ensures)
 
 pub parse-flush-spec : {M : Type 1} → statement M
 parse-flush-spec =

@@ -41,7 +41,15 @@ returns-3 : tie.Need-returns-3
 returns-3 c = search needs
 
 returns-4 : tie.Need-returns-4
-returns-4 c = record { pending = read (c .before .before .before .before .before .before .before .before .before .pending .given .1) (c .before .before .before .before .before .before .before .before .before .before .before .number-after .ensures) .0; out = read (c .before .before .before .before .before .out .given .1) (c .before .before .before .before .before .before .before .number-after2 .ensures) .0; rows = read (c .before .rows .given .1) (c .before .before .before .number-after3 .ensures) .0 }
+returns-4 c =
+    let rows = c .before in
+    let out = rows .before .before .before .before in
+    let pending = out .before .before .before .before in
+    record {
+      pending = read (pending .pending .given .1) (pending .before .before .number-after .ensures) .0;
+      out = read (out .out .given .1) (out .before .before .number-after2 .ensures) .0;
+      rows = read (rows .rows .given .1) (rows .before .before .number-after3 .ensures) .0;
+    }
 
 pub parse-lent-spec : {M : Type 1} → statement M
 parse-lent-spec =

@@ -56,7 +56,12 @@ returns-4 : tie.Need-returns-4
 returns-4 c = search needs
 
 returns-5 : tie.Need-returns-5
-returns-5 c = (lendable (c .before .before .before .before .before .before .lent .given .1) (c .before .before .before .before .before .before .before .before .parse-lent .ensures), omega (arith, ap bytesOf (c .before .count .given .1), c .before .before .before .parse-bytes .ensures))
+returns-5 c =
+    let count = c .before in
+    let lent = count .before .before .before .before .before in (
+      lendable (lent .lent .given .1) (lent .before .before .parse-lent .ensures),
+      omega (arith, ap bytesOf (count .count .given .1), count .before .before .parse-bytes .ensures),
+    )
 
 pub parse-push-spec : {M : Type 1} → statement M
 parse-push-spec =

@@ -31,7 +31,9 @@ returns-2 : tie.Need-returns-2
 returns-2 c = search needs
 
 returns-3 : tie.Need-returns-3
-returns-3 c = omega (arith, ap bytesOf (c .before .count .given .1), c .before .before .before .parse-bytes .ensures)
+returns-3 c =
+    let count = c .before in
+    omega (arith, ap bytesOf (count .count .given .1), count .before .before .parse-bytes .ensures)
 
 pub parse-set-spec : {M : Type 1} → statement M
 parse-set-spec =

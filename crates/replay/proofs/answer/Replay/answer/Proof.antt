@@ -12,19 +12,26 @@ enum-known-request : tie.Need-enum-known-request
 enum-known-request c = search needs
 
 push-requires : tie.Need-push-requires
-push-requires c κs = (search needs, subst Allowed (c .before .before .before .before .before .before .request .given .1) (c .before .before .before .before .before .before .before .before .parse-request .ensures) .0, subst Allowed (c .before .before .before .before .before .before .request .given .1) (c .before .before .before .before .before .before .before .before .parse-request .ensures) .1)
+push-requires c κs =
+    let request = c .before .before .before .before .before .before in
+    let allowed = subst Allowed (request .request .given .1) (request .before .before .parse-request .ensures) in
+    (search needs, allowed .0, allowed .1)
 
 enum-known-request-2 : tie.Need-enum-known-request-2
 enum-known-request-2 c = search needs
 
 flush-requires : tie.Need-flush-requires
-flush-requires c κs = (search needs, subst Allowed (c .before .before .before .before .before .request2 .given .1) (c .before .before .before .before .before .before .before .parse-request .ensures))
+flush-requires c κs =
+    let request = c .before .before .before .before .before in
+    (search needs, subst Allowed (request .request2 .given .1) (request .before .before .parse-request .ensures))
 
 enum-known-request-3 : tie.Need-enum-known-request-3
 enum-known-request-3 c = search needs
 
 set-pending-requires : tie.Need-set-pending-requires
-set-pending-requires c κs = subst Allowed (c .before .before .before .request3 .given .1) (c .before .before .before .before .before .parse-request .ensures)
+set-pending-requires c κs =
+    let request = c .before .before .before in
+    subst Allowed (request .request3 .given .1) (request .before .before .parse-request .ensures)
 
 quiet-requires : tie.Need-quiet-requires
 quiet-requires c κs = search needs

@@ -9,7 +9,8 @@ use Rattle.replay.proofs.session.Session.feed.Statement.{statement}
 use Rattle.replay.proofs.session.Session.feed.Tie as tie
 
 abbrev Inv-loop : tie.InvT-loop
-Inv-loop bytes text₀ block₀ payload₀ pending₀ out₀ rows₀ line₀ replay₀ i₀ i-end text block payload pending out rows line replay i = (i-end ≡ length bytes) × (i ≤ i-end) × Within line × Bounded (replay .output)
+Inv-loop bytes text₀ block₀ payload₀ pending₀ out₀ rows₀ line₀ replay₀ i₀ i-end text block payload pending out rows line replay i =
+    (i-end ≡ length bytes) × (i ≤ i-end) × Within line × Bounded (replay .output)
 
 abbrev μ-loop : tie.MeasureT-loop
 μ-loop bytes text₀ block₀ payload₀ pending₀ out₀ rows₀ line₀ replay₀ i₀ i-end text block payload pending out rows line replay i = i-end - i

@@ -1,8 +1,8 @@
 -- `set_pending` is safe and ends.
 use Prim.Native.Nat.{_-_}
 use borrow.Author.Needs.{needs}
-use Rattle.replay.proofs.answer.set_pending.Statement.{statement}
-use Rattle.replay.proofs.answer.set_pending.Tie as tie
+use Rattle.replay.proofs.buffers.set_pending.Statement.{statement}
+use Rattle.replay.proofs.buffers.set_pending.Tie as tie
 
 abbrev Inv-loop : tie.InvT-loop
 Inv-loop pending₀ bytes count i₀ pending i = Unit {0}

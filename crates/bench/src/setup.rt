@@ -1,0 +1,76 @@
+// The first line: `CODE SIZE ROUNDS`.
+use crate::number::Number;
+use crate::number::Place;
+use crate::number::number_after;
+use crate::number::parse_number;
+use crate::number::skip;
+ghost use lib.ListN.{length};
+ghost use Rattle.bench.specs.Setup.{Usable};
+
+// How many bytes the line may have, with its line feed.
+pub const LINE_MAX: usize = 64;
+
+const U32_MAX: u64 = 4294967295;
+
+// The most bytes that the splitter takes in one payload.
+const SIZE_MAX: u64 = 65535;
+
+pub struct Setup {
+    pub code: u32,
+    pub size: usize,
+    pub rounds: u64,
+    // Where the stream begins.
+    pub start: usize,
+}
+
+pub enum FirstLine {
+    Read(Setup),
+    Malformed,
+}
+
+pub fn parse_setup(input: &[u8]) -> FirstLine
+    ensures { λ r. ⌜ Usable (length (now (input .entry))) r ⌝ }
+{
+    let Number::Value {
+        value: code,
+        next: code_end,
+    } = parse_number(input, 0, U32_MAX)
+    else {
+        return FirstLine::Malformed;
+    };
+    let Number::Value {
+        value: size,
+        next: size_end,
+    } = number_after(input, code_end, b' ', SIZE_MAX)
+    else {
+        return FirstLine::Malformed;
+    };
+    let Number::Value {
+        value: rounds,
+        next,
+    } = number_after(input, size_end, b' ', u64::MAX)
+    else {
+        return FirstLine::Malformed;
+    };
+    parse_line_end(input, next, code as u32, size as usize, rounds)
+}
+
+fn parse_line_end(input: &[u8], at: usize, code: u32, size: usize, rounds: u64) -> FirstLine
+    ensures { λ r. ⌜ Usable (length (now (input .entry))) r ⌝ }
+{
+    let Place::At(start) = skip(input, at, b'\n') else {
+        return FirstLine::Malformed;
+    };
+    if start > LINE_MAX {
+        return FirstLine::Malformed;
+    }
+    if size == 0 {
+        return FirstLine::Malformed;
+    }
+    FirstLine::Read(Setup {
+        code,
+        size,
+        rounds,
+        start,
+    })
+}
