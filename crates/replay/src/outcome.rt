@@ -13,7 +13,7 @@ use splitter::AudioFrameSplitter;
 use splitter::FlushAnswer;
 use splitter::PushAnswer;
 use splitter::Written;
-ghost use Prim.Native.Nat.{_*_, _≤_};
+ghost use Prim.Native.Nat.{_≤_};
 ghost use Rattle.replay.specs.Bounds.{Bounded, Fitting};
 
 pub enum Outcome {

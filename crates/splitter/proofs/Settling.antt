@@ -1,21 +1,21 @@
 -- What the search of a push has met, and what a push that has ended hands back: just what the definition says. Assumes nothing.
 use mathlib.Core.Path.{_≡_, refl, sym, _∙_, ap, ap₂, subst}
-use mathlib.Core.Bool.{Bool, true, false, _&&_, _||_}
-use mathlib.Core.List.{List, [], _∷_, _++_}
+use mathlib.Core.Bool.{true, false, _&&_, _||_}
+use mathlib.Core.List.{List, _++_}
 use Prim.Native.Nat.{ℕ, _+_, _-_, _*_, _/_, _≤_, _<_}
 use native.Mathlib.Omega.{arith}
 use lib.Dec.{ltb, leb}
 use lib.IntN.{ℤ}
 use lib.ListN.{length, take, drop, length-drop}
 use Rattle.heads.specs.Syntax.{headOf, needOf}
-use Rattle.heads.proofs.Promise.{length-most, samples-most}
+use Rattle.heads.proofs.Promise.{samples-most}
 use Rattle.heads.specs.declared.info.AudioFrameInfo.{AudioFrameInfo}
 use Rattle.heads.specs.declared.info.Head.{Head}
 use Rattle.heads.specs.declared.info.Head.the-variants.{Read, Refused}
 use Rattle.heads.specs.declared.info.Refusal.{Refusal}
 use Rattle.heads.specs.declared.syntax.AudioSyntax.{AudioSyntax}
 use Rattle.splitter.specs.Cut.{unread, remainder}
-use Rattle.splitter.specs.Answer.{Answer, done, pushAnswer}
+use Rattle.splitter.specs.Answer.{done, pushAnswer}
 use Rattle.splitter.specs.Stamp.{Sheet}
 use Rattle.splitter.specs.Push.{Event, event, rowWidth, over, bytesOf, rowsOf, anyFrame, refusalOf, pushTaken}
 use Rattle.splitter.specs.Steps.{Good, Small, Settleable, settled, startClock, lostWalk, givenWalk, endTiming}
@@ -26,8 +26,8 @@ use Rattle.splitter.specs.declared.push.Next.{Next}
 use Rattle.splitter.specs.declared.push.Next.the-variants.{Frame, Partial, End}
 use Rattle.splitter.specs.declared.push.Walk.{Walk}
 use Rattle.splitter.specs.declared.state.AudioFrameSplitter.{AudioFrameSplitter}
-use Rattle.splitter.proofs.Clocks.{Fine, good-start, good-more}
-use Rattle.splitter.proofs.Walking.{Slid, Going, Ended, going-slid, ends-partial, ends-short, cutsAll, sheetAll, any-length}
+use Rattle.splitter.proofs.Clocks.{good-start, good-more}
+use Rattle.splitter.proofs.Walking.{Going, Ended, ends-partial, ends-short, cutsAll, sheetAll, any-length}
 
 -- ---- steps of the code, as numbers
 

@@ -1,7 +1,7 @@
 -- A push under way. J are the joined bytes, p of them were pending; w says how far the push has come, c is its clock. What is still to be cut
 -- is a walk from the place reached, and so each step of the code is one step of that walk. Assumes nothing.
 use mathlib.Core.Path.{_≡_, refl, sym, _∙_, ap, ap₂, subst, subst₂}
-use mathlib.Core.Bool.{Bool, true, false, _&&_, _||_}
+use mathlib.Core.Bool.{Bool, true, false, _&&_}
 use mathlib.Core.Logic.{_⊎_, inl, inr}
 use mathlib.Core.List.{List, [], _∷_, _++_, append-nil}
 use Prim.Native.Nat.{ℕ, zero, suc, _+_, _-_, _*_, _/_, _≤_, _<_}
@@ -18,11 +18,10 @@ use Rattle.heads.specs.declared.info.AudioFrameInfo.{AudioFrameInfo}
 use Rattle.heads.specs.declared.info.Head.the-variants.{Read}
 use Rattle.heads.specs.declared.syntax.AudioSyntax.{AudioSyntax}
 use Rattle.splitter.specs.Cut.{Cut, lost, given, kept, short, unread, walk, remainder, losses}
-use Rattle.splitter.specs.Stamp.{Frame, Sheet, ahead, early, give, keep, keepTail, voided, emptied, stampCuts}
+use Rattle.splitter.specs.Stamp.{Frame, Sheet, ahead, early, give, keep, keepTail, voided, stampCuts}
 use Rattle.splitter.specs.Push.{rowWidth, bytesOf, row, rowsOf, over, anyFrame}
 use Rattle.splitter.specs.Steps.{Good, UnreadRun, rowBy, lostWalk, givenWalk, tailTiming, endTiming}
 use Rattle.splitter.specs.declared.timing.Clock.{Clock}
-use Rattle.splitter.specs.declared.timing.Timing.{Timing}
 use Rattle.splitter.specs.declared.push.Next.{Next}
 use Rattle.splitter.specs.declared.push.Next.the-variants.{Partial, End}
 use Rattle.splitter.specs.declared.push.Walk.{Walk}

@@ -11,7 +11,6 @@ use Rattle.heads.specs.declared.info.AudioFrameInfo.{AudioFrameInfo}
 use Rattle.splitter.specs.Cut.{Cut, lost, given, kept, short}
 use Rattle.splitter.specs.declared.timing.Pts.{Pts}
 use Rattle.splitter.specs.declared.timing.Pts.the-variants.{At, Absent}
-use Rattle.splitter.specs.declared.timing.Anchor.{Anchor}
 use Rattle.splitter.specs.declared.timing.Anchored.{Anchored}
 use Rattle.splitter.specs.declared.timing.Anchored.the-variants.{To, Free}
 use Rattle.splitter.specs.declared.timing.Timing.{Timing}

@@ -24,7 +24,6 @@ use Rattle.splitter.specs.declared.timing.Timing.{Timing}
 use Rattle.splitter.specs.declared.timing.Clock.{Clock}
 use Rattle.splitter.specs.declared.timing.Geometry.{Geometry}
 use Rattle.splitter.specs.declared.timing.Stamped.{Stamped}
-use Rattle.splitter.specs.declared.answer.PushAnswer.{PushAnswer}
 use Rattle.splitter.specs.declared.answer.PushAnswer.the-variants.{Refused, NotTaken, Taken}
 use Rattle.splitter.specs.declared.answer.Pushed.{Pushed}
 use Rattle.splitter.specs.declared.state.AudioFrameSplitter.{AudioFrameSplitter}

@@ -1,19 +1,17 @@
 -- The search stays on the walk from the place where it began, and what is handed back is the front of what the whole walk hands back; so
 -- where the walk ends all of it has been written.
 use borrow.Author.Needs.{needs}
-use mathlib.Core.Path.{_≡_, refl, sym, _∙_, ap, subst, subst₂}
+use mathlib.Core.Path.{_≡_, sym, _∙_, ap, subst, subst₂}
 use mathlib.Core.Bool.{Bool, true, false, _&&_}
 use mathlib.Core.List.{List, [], _∷_, _++_}
 use mathlib.Core.Logic.{⊎-elim}
-use Prim.Native.Nat.{ℕ, _+_, _-_, _*_, _/_, _≤_, _<_}
+use Prim.Native.Nat.{ℕ, _+_, _-_, _*_, _/_, _≤_}
 use native.Mathlib.Omega.{arith}
 use lib.Dec.{ltb, leb}
-use lib.IntN.{ℤ}
 use lib.ListN.{length, take, drop, length-drop, length-take}
 use denote.Ref.{now}
 use denote.Enum.Declared.{tagOf}
 use types.Run.{OneOf}
-use borrow.Author.Tests.{ltb-true}
 use borrow.Rule.Slice.PartMut.{putMid}
 use Rattle.heads.proofs.Promise.{need-least, length-most, samples-most, whole-length}
 use Rattle.heads.specs.Syntax.{headOf, needOf}
@@ -23,7 +21,7 @@ use Rattle.splitter.proofs.push.Next.{the-type}
 use Rattle.splitter.specs.Cut.{unread}
 use Rattle.splitter.specs.Push.{over, rowWidth}
 use Rattle.splitter.specs.Stamp.{give}
-use Rattle.splitter.specs.Steps.{rowBy, lostWalk, givenWalk, Small}
+use Rattle.splitter.specs.Steps.{rowBy, Small}
 use Rattle.splitter.specs.declared.timing.Clock.{Clock}
 use Rattle.splitter.specs.declared.timing.Stamped.{Stamped}
 use Rattle.splitter.specs.declared.push.Next.{Next}
