@@ -1,0 +1,4 @@
+-- The definitions that the contracts cite, in the order in which they build on each other.
+pub mod Layout
+pub mod Sheet
+pub mod Step

@@ -1,0 +1,129 @@
+-- THE STEPS by which a program makes a sheet: one payload's lines, and the last line. Each writes to the front of a lent text.
+use mathlib.Core.Path.{_≡_}
+use mathlib.Core.Bool.{Bool, true, false}
+use mathlib.Core.List.{List, [], _∷_, _++_}
+use Prim.Native.Nat.{ℕ, _+_, _*_, _/_, _≤_}
+use lib.Dec.{ltb}
+use lib.IntN.{ℤ}
+use lib.ListN.{length, take, drop}
+use Rattle.heads.specs.Syntax.{syntaxOf}
+use Rattle.heads.specs.declared.syntax.CodedSyntax.{CodedSyntax}
+use Rattle.heads.specs.declared.syntax.CodedSyntax.the-variants.{Known, Refused as NoSyntax}
+use Rattle.splitter.specs.Answer.{Answer, refused, done, refusalNumber}
+use Rattle.splitter.specs.Push.{Event, Outcome, event, over, push, new, rowWidth}
+use Rattle.splitter.specs.declared.answer.SplitterRefusal.the-variants.{SyntaxCode}
+use Rattle.sheet.specs.Layout.{lowDigits, endLine}
+use Rattle.sheet.specs.Sheet.{timeOf, linesOf, endOf}
+use Rattle.sheet.specs.declared.sheet.CutSheet.{CutSheet}
+use Rattle.sheet.specs.declared.sheet.NewSheet.{NewSheet}
+use Rattle.sheet.specs.declared.sheet.SheetAnswer.{SheetAnswer}
+use Rattle.sheet.specs.declared.sheet.SheetAnswer.the-variants.{Written}
+
+-- ---- text
+
+-- a text whose bytes from a place on are written over
+abbrev pub put {ℓ} : {A : Type ℓ} → ℕ → List A → List A → List A
+put at new old = take at old ++ (new ++ drop (at + length new) old)
+
+-- it has room for that many from there on
+abbrev pub Room : ℕ → ℕ → List ℕ → Type 0
+Room at n text = at + n ≤ length text
+
+-- ---- answers
+
+-- a call is refused by a number of document 01's table, or says how many bytes of text it wrote
+pub data Wrote : Type 0 where
+  refused : ℕ → Wrote
+  written : ℕ → Wrote
+
+abbrev pub sheetAnswer : SheetAnswer → Wrote
+sheetAnswer (SheetAnswer.Refused g) = refused (refusalNumber g)
+sheetAnswer (Written n) = written n
+
+-- ---- a new sheet: 7
+
+abbrev pub newSheet : ℕ → CutSheet
+newSheet code = record { splitter = new code; number = 0; begun = false }
+
+abbrev pub newSheetIn : CodedSyntax → ℕ → NewSheet
+newSheetIn (NoSyntax g) code = NewSheet.Refused SyntaxCode
+newSheetIn (Known x) code = NewSheet.Made (newSheet code)
+
+unfoldable pub newSheetOf : ℕ → NewSheet
+newSheetOf code = newSheetIn (syntaxOf code) code
+
+-- ---- one payload
+
+-- how long a frame's line is: eight columns, the spaces between them, the line feed
+abbrev pub lineLength : ℕ
+lineLength = 8 + 5 + 2 + 5 + 6 + 2 + 7 + 20 + 7 + 1
+
+-- what a step is lent: the splitter's three buffers, and the text
+pub record Lent : Type 0 where
+  pub pend : List ℕ
+  pub out : List ℕ
+  pub rows : List ℤ
+  pub text : List ℕ
+
+abbrev pub lent : List ℕ → List ℕ → List ℤ → List ℕ → Lent
+lent b o r t = record { pend = b; out = o; rows = r; text = t }
+
+-- what it answers, the sheet's state after it, and what the buffers then hold
+pub record Step : Type 0 where
+  pub answer : Wrote
+  pub state : CutSheet
+  pub pend : List ℕ
+  pub out : List ℕ
+  pub rows : List ℤ
+  pub text : List ℕ
+
+abbrev pub stay : ℕ → CutSheet → Lent → Step
+stay k c b = record { answer = refused k; state = c; pend = b .pend; out = b .out; rows = b .rows; text = b .text }
+
+-- the sheet's state after r more rows: it holds the low eight digits of the last line's number
+abbrev pub stepped : CutSheet → Outcome → ℕ → CutSheet
+stepped c o r = record { splitter = o .state; number = lowDigits (c .number + r); begun = true }
+
+abbrev pub stepBy : Answer → CutSheet → Lent → Outcome → Step
+stepBy (Answer.refused k) c b o = stay k c b
+stepBy (done t r n) c b o =
+    record {
+      answer = written (length (linesOf (c .number) r (o .rows)));
+      state = stepped c o r;
+      pend = o .pend;
+      out = o .out;
+      rows = o .rows;
+      text = over (linesOf (c .number) r (o .rows)) (b .text);
+    }
+
+abbrev pub pushOf : CutSheet → List ℕ → Lent → Outcome
+pushOf c p b = push (c .splitter) (event p (timeOf (c .begun)) (b .pend) (b .out) (b .rows))
+
+-- 12 comes first here: the text has no room for a line of each row that the rows have room for
+abbrev pub stepIf : Bool → CutSheet → Lent → Outcome → Step
+stepIf true c b o = stay 12 c b
+stepIf false c b o = stepBy (o .answer) c b o
+
+abbrev pub tightText : ℕ → ℕ → Bool
+tightText text rows = ltb (text / lineLength) (rows / rowWidth)
+
+unfoldable pub step : CutSheet → List ℕ → Lent → Step
+step c p b = stepIf (tightText (length (b .text)) (length (b .rows))) c b (pushOf c p b)
+
+-- ---- the last line
+
+-- how long it can be: E, two numbers of 64 bits with a space before each, the line feed
+abbrev pub endMost : ℕ
+endMost = 1 + (1 + 20) + (1 + 20) + 1
+
+pub record End : Type 0 where
+  pub answer : Wrote
+  pub text : List ℕ
+
+abbrev pub endIf : Bool → CutSheet → List ℕ → End
+endIf true c text = record { answer = refused 12; text = text }
+endIf false c text = record { answer = written (length (endOf (c .splitter))); text = over (endOf (c .splitter)) text }
+
+-- 12 for a text that is shorter than the longest
+unfoldable pub finish : CutSheet → List ℕ → End
+finish c text = endIf (ltb (length text) endMost) c text

@@ -1,0 +1,93 @@
+// The lines of a sheet.
+use crate::column::Cell;
+use crate::column::put_cell;
+use crate::column::put_number;
+ghost use mathlib.Core.Path.{_≡_};
+ghost use Prim.Native.Nat.{_+_, _*_, _≤_};
+ghost use lib.ListN.{length, drop};
+ghost use Rattle.splitter.specs.Push.{rowWidth};
+ghost use Rattle.sheet.specs.Layout.{line, endLine, lowDigits, rateCell, stampCell};
+ghost use Rattle.sheet.specs.Sheet.{linesOf};
+ghost use Rattle.sheet.specs.Step.{put, Room};
+
+// How many numbers a row has.
+pub const ROW_LEN: usize = 8;
+
+// A row has 0 for an absent bit rate.
+fn rate_cell(bit_rate: i64) -> Cell
+    ensures { λ r. ⌜ r ≡ rateCell «bit_rate» ⌝ }
+{
+    if bit_rate == 0 {
+        return Cell::Absent;
+    }
+    Cell::Number(bit_rate)
+}
+
+// A row says by 1 that it has a stamp.
+fn stamp_cell(present: i64, stamp: i64) -> Cell
+    ensures { λ r. ⌜ r ≡ stampCell present stamp ⌝ }
+{
+    if present == 1 {
+        return Cell::Number(stamp);
+    }
+    Cell::Absent
+}
+
+// Writes the line of a frame from a place of the text on, by the row that begins at place from, and answers the place behind it. Of the
+// number, the low eight digits are given.
+pub fn put_line(text: &mut [u8], at: usize, number: u32, rows: &[i64], from: usize) -> usize
+    requires { ⌜ (number ≡ lowDigits number) × (from + rowWidth ≤ length (now rows)) × Room at (length (line number (drop from (now rows)))) (now text) ⌝ }
+    ensures { λ r. ⌜ r ≡ at + length (line number (drop from (now (rows .entry)))) ⌝ }
+    ensures { λ _. ⌜ now (text .exit) ≡ put at (line number (drop from (now (rows .entry)))) (now (text .entry)) ⌝ }
+{
+    let mut end = put_cell(text, at, 8, Cell::Number(number as i64), b' ');
+    end = put_cell(text, end, 5, Cell::Number(rows[from]), b' ');
+    end = put_cell(text, end, 2, Cell::Number(rows[from + 1]), b' ');
+    end = put_cell(text, end, 5, Cell::Number(rows[from + 2]), b' ');
+    end = put_cell(text, end, 6, Cell::Number(rows[from + 3]), b' ');
+    end = put_cell(text, end, 2, Cell::Number(rows[from + 4]), b' ');
+    end = put_cell(text, end, 7, rate_cell(rows[from + 5]), b' ');
+    put_cell(
+        text,
+        end,
+        20,
+        stamp_cell(rows[from + 6], rows[from + 7]),
+        b'\n',
+    )
+}
+
+// The low eight digits of the number of the k-th line after that number.
+pub fn number_after(number: u32, k: usize) -> u32
+    requires { ⌜ k ≤ 2305843009213693952 ⌝ }
+    ensures { λ r. ⌜ r ≡ lowDigits (number + k) ⌝ }
+{
+    ((number as u64 + k as u64) % 100_000_000) as u32
+}
+
+// Writes the lines of the first count rows to the front of the text, and answers how many bytes they have.
+pub fn put_lines(text: &mut [u8], number: u32, rows: &[i64], count: usize) -> usize
+    requires { ⌜ (count * rowWidth ≤ length (now rows)) × Room 0 (length (linesOf number count (now rows))) (now text) ⌝ }
+    ensures { λ r. ⌜ r ≡ length (linesOf number count (now (rows .entry))) ⌝ }
+    ensures { λ _. ⌜ now (text .exit) ≡ put 0 (linesOf number count (now (rows .entry))) (now (text .entry)) ⌝ }
+{
+    let mut at = 0;
+    for k in 0..count {
+        at = put_line(text, at, number_after(number, k + 1), rows, k * ROW_LEN);
+    }
+    at
+}
+
+// Writes the last line to the front of the text, and answers how many bytes it has.
+pub fn put_end_line(text: &mut [u8], discarded: u64, pending: usize) -> usize
+    requires { ⌜ Room 0 (length (endLine discarded pending)) (now text) ⌝ }
+    ensures { λ r. ⌜ r ≡ length (endLine discarded pending) ⌝ }
+    ensures { λ _. ⌜ now (text .exit) ≡ put 0 (endLine discarded pending) (now (text .entry)) ⌝ }
+{
+    text[0] = b'E';
+    text[1] = b' ';
+    let middle = put_number(text, 2, 20, false, discarded);
+    text[middle] = b' ';
+    let end = put_number(text, middle + 1, 5, false, pending as u64);
+    text[end] = b'\n';
+    end + 1
+}

@@ -1,0 +1,135 @@
+// A sheet under way: its state goes into each call by value and is handed back by it.
+use crate::line::ROW_LEN;
+use crate::line::number_after;
+use crate::line::put_end_line;
+use crate::line::put_lines;
+use splitter::AudioFrameSplitter;
+use splitter::NewSplitter;
+use splitter::Pts;
+use splitter::PushAnswer;
+use splitter::SplitterRefusal;
+ghost use mathlib.Core.Path.{_≡_};
+ghost use Rattle.sheet.specs.Sheet.{timeOf};
+ghost use Rattle.sheet.specs.Step.{newSheetOf, sheetAnswer, step, lent, finish};
+
+// How many bytes the line of a frame has.
+const LINE_LEN: usize = 63;
+
+// How many bytes the last line can have.
+const END_MAX: usize = 44;
+
+pub struct CutSheet {
+    pub splitter: AudioFrameSplitter,
+    // The low eight digits of the last line's number.
+    pub number: u32,
+    // Whether the first payload, which has the timestamp 0, has gone.
+    pub begun: bool,
+}
+
+pub enum NewSheet {
+    Refused(SplitterRefusal),
+    Made(CutSheet),
+}
+
+pub enum SheetAnswer {
+    Refused(SplitterRefusal),
+    // How many bytes were written to the front of the text.
+    Written(usize),
+}
+
+// The answer of a step, and the sheet's state after it.
+pub struct CutLines {
+    pub answer: SheetAnswer,
+    pub sheet: CutSheet,
+}
+
+impl CutSheet {
+    // The sheet of a stream of the syntax with that code.
+    pub fn new(code: u32) -> NewSheet
+        ensures { λ r. ⌜ r ≡ newSheetOf code ⌝ }
+    {
+        match AudioFrameSplitter::new(code) {
+            NewSplitter::Made(splitter) => NewSheet::Made(CutSheet {
+                splitter,
+                number: 0,
+                begun: false,
+            }),
+            NewSplitter::Refused(refusal) => NewSheet::Refused(refusal),
+        }
+    }
+
+    // The timestamp of the next payload.
+    fn pts(self) -> Pts
+        ensures { λ r. ⌜ r ≡ timeOf (self .begun) ⌝ }
+    {
+        if self.begun {
+            return Pts::Absent;
+        }
+        Pts::At(0)
+    }
+
+    // Pushes one payload, and writes a line for each frame that it completes.
+    pub fn cut(
+        self,
+        payload: &[u8],
+        pending: &mut [u8],
+        out: &mut [u8],
+        rows: &mut [i64],
+        text: &mut [u8],
+    ) -> CutLines
+        ensures { λ r. ⌜ sheetAnswer (r .answer) ≡ step self (now (payload .entry)) (lent (now (pending .entry)) (now (out .entry)) (now (rows .entry)) (now (text .entry))) .answer ⌝ }
+        ensures { λ r. ⌜ r .sheet ≡ step self (now (payload .entry)) (lent (now (pending .entry)) (now (out .entry)) (now (rows .entry)) (now (text .entry))) .state ⌝ }
+        ensures { λ _. ⌜ now (pending .exit) ≡ step self (now (payload .entry)) (lent (now (pending .entry)) (now (out .entry)) (now (rows .entry)) (now (text .entry))) .pend ⌝ }
+        ensures { λ _. ⌜ now (out .exit) ≡ step self (now (payload .entry)) (lent (now (pending .entry)) (now (out .entry)) (now (rows .entry)) (now (text .entry))) .out ⌝ }
+        ensures { λ _. ⌜ now (rows .exit) ≡ step self (now (payload .entry)) (lent (now (pending .entry)) (now (out .entry)) (now (rows .entry)) (now (text .entry))) .rows ⌝ }
+        ensures { λ _. ⌜ now (text .exit) ≡ step self (now (payload .entry)) (lent (now (pending .entry)) (now (out .entry)) (now (rows .entry)) (now (text .entry))) .text ⌝ }
+    {
+        if text.len() / LINE_LEN < rows.len() / ROW_LEN {
+            let refusal = SplitterRefusal::Buffer;
+            return CutLines {
+                answer: SheetAnswer::Refused(refusal),
+                sheet: self,
+            };
+        }
+        let splitter = self.splitter;
+        let pushed = splitter.push(payload, self.pts(), pending, out, rows);
+        let answer = pushed.answer;
+        let count = match answer {
+            PushAnswer::Refused(refusal) => {
+                return CutLines {
+                    answer: SheetAnswer::Refused(refusal),
+                    sheet: self,
+                };
+            }
+            PushAnswer::NotTaken => 0,
+            PushAnswer::Taken(written) => written.rows,
+        };
+        let len = put_lines(text, self.number, rows, count);
+        let after = pushed.splitter;
+        CutLines {
+            answer: SheetAnswer::Written(len),
+            sheet: CutSheet {
+                splitter: after,
+                number: number_after(self.number, count),
+                begun: true,
+            },
+        }
+    }
+
+    // Writes the last line: the bytes discarded, and those pending.
+    pub fn finish(self, text: &mut [u8]) -> SheetAnswer
+        ensures { λ r. ⌜ sheetAnswer r ≡ finish self (now (text .entry)) .answer ⌝ }
+        ensures { λ _. ⌜ now (text .exit) ≡ finish self (now (text .entry)) .text ⌝ }
+    {
+        if text.len() < END_MAX {
+            let refusal = SplitterRefusal::Buffer;
+            return SheetAnswer::Refused(refusal);
+        }
+        let splitter = self.splitter;
+        SheetAnswer::Written(put_end_line(
+            text,
+            splitter.discarded_bytes(),
+            splitter.pending_bytes(),
+        ))
+    }
+}
