@@ -1,0 +1,4 @@
+-- The laws by concept.
+
+-- rows that fit their columns
+pub mod Fits
