@@ -1,4 +1,23 @@
 -- The laws by concept.
 
--- rows that fit their columns
-pub mod Fits
+-- numbers as digits, and a text that is written
+pub mod Digits
+pub mod Writing
+pub mod Spelling
+pub mod Filling
+-- lines by their columns, and rows that fit them
+pub mod Cells
+pub mod Columns
+pub mod Halves
+-- the lines of a push; the lines that are written one after the other
+pub mod Lines
+pub mod Listing
+pub mod Stepping
+-- the first line of the input, and a new sheet
+pub mod Opening
+-- the steps over a stream's payloads give its sheet
+pub mod Sheets
+-- document 01's example, computed
+pub mod Example
+-- a line is read back in one way only
+pub mod Reading

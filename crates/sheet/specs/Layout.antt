@@ -30,7 +30,7 @@ digit d = 48 + d
 -- the digits of n, the last k of them at most: those of n / 10, if there are any, and then n % 10
 abbrev pub digits : ℕ → ℕ → List ℕ
 digits zero n = []
-digits (suc k) n = cond (ltb n 10) (digit n ∷ []) (digits k (n / 10) ++ (digit (n % 10) ∷ []))
+digits (suc k) n = let more = digits k (n / 10) ++ (digit (n % 10) ∷ []) in cond (ltb n 10) (digit n ∷ []) more
 
 -- a decimal without leading zeros; no number n has more than n + 1 digits
 unfoldable pub decimal : ℕ → List ℕ

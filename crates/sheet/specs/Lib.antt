@@ -2,3 +2,5 @@
 pub mod Layout
 pub mod Sheet
 pub mod Step
+pub mod Parts
+pub mod Run

@@ -9,10 +9,11 @@ use lib.ListN.{length, take, drop}
 use Rattle.heads.specs.Syntax.{syntaxOf}
 use Rattle.heads.specs.declared.syntax.CodedSyntax.{CodedSyntax}
 use Rattle.heads.specs.declared.syntax.CodedSyntax.the-variants.{Known, Refused as NoSyntax}
-use Rattle.splitter.specs.Answer.{Answer, refused, done, refusalNumber}
+use Rattle.splitter.specs.Answer.{Answer, done, refusalNumber}
 use Rattle.splitter.specs.Push.{Event, Outcome, event, over, push, new, rowWidth}
 use Rattle.splitter.specs.declared.answer.SplitterRefusal.the-variants.{SyntaxCode}
-use Rattle.sheet.specs.Layout.{lowDigits, endLine}
+use Rattle.splitter.specs.declared.state.AudioFrameSplitter.{AudioFrameSplitter}
+use Rattle.sheet.specs.Layout.{lowDigits}
 use Rattle.sheet.specs.Sheet.{timeOf, linesOf, endOf}
 use Rattle.sheet.specs.declared.sheet.CutSheet.{CutSheet}
 use Rattle.sheet.specs.declared.sheet.NewSheet.{NewSheet}
@@ -80,16 +81,16 @@ pub record Step : Type 0 where
 abbrev pub stay : ℕ → CutSheet → Lent → Step
 stay k c b = record { answer = refused k; state = c; pend = b .pend; out = b .out; rows = b .rows; text = b .text }
 
--- the sheet's state after r more rows: it holds the low eight digits of the last line's number
-abbrev pub stepped : CutSheet → Outcome → ℕ → CutSheet
-stepped c o r = record { splitter = o .state; number = lowDigits (c .number + r); begun = true }
+-- the sheet's state after r more rows, with the splitter's: it holds the low eight digits of the last line's number
+abbrev pub sheetAfter : CutSheet → AudioFrameSplitter → ℕ → CutSheet
+sheetAfter c s r = record { splitter = s; number = lowDigits (c .number + r); begun = true }
 
 abbrev pub stepBy : Answer → CutSheet → Lent → Outcome → Step
 stepBy (Answer.refused k) c b o = stay k c b
 stepBy (done t r n) c b o =
     record {
       answer = written (length (linesOf (c .number) r (o .rows)));
-      state = stepped c o r;
+      state = sheetAfter c (o .state) r;
       pend = o .pend;
       out = o .out;
       rows = o .rows;

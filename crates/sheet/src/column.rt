@@ -56,16 +56,30 @@ fn put_absent(text: &mut [u8], at: usize, width: usize) -> usize
     start + 1
 }
 
+// Closes a column: the byte behind it.
+fn put_close(text: &mut [u8], at: usize, close: u8) -> usize
+    requires { ⌜ Room at 1 (now text) ⌝ }
+    ensures { λ r. ⌜ r ≡ at + 1 ⌝ }
+    ensures { λ _. ⌜ now (text .exit) ≡ put at (close ∷ []) (now (text .entry)) ⌝ }
+{
+    text[at] = close;
+    at + 1
+}
+
 // A column, and the byte behind it: a space, or the line feed.
 pub fn put_cell(text: &mut [u8], at: usize, width: usize, cell: Cell, close: u8) -> usize
     requires { ⌜ Room at (length (right width (cellText cell)) + 1) (now text) ⌝ }
     ensures { λ r. ⌜ r ≡ at + (length (right width (cellText cell)) + 1) ⌝ }
     ensures { λ _. ⌜ now (text .exit) ≡ put at (right width (cellText cell) ++ (close ∷ [])) (now (text .entry)) ⌝ }
 {
-    let end = match cell {
-        Cell::Number(value) => put_number(text, at, width, value < 0, magnitude(value)),
-        Cell::Absent => put_absent(text, at, width),
-    };
-    text[end] = close;
-    end + 1
+    match cell {
+        Cell::Number(value) => {
+            let end = put_number(text, at, width, value < 0, magnitude(value));
+            put_close(text, end, close)
+        }
+        Cell::Absent => {
+            let end = put_absent(text, at, width);
+            put_close(text, end, close)
+        }
+    }
 }

@@ -4,11 +4,12 @@ use crate::column::put_cell;
 use crate::column::put_number;
 ghost use mathlib.Core.Path.{_≡_};
 ghost use Prim.Native.Nat.{_+_, _*_, _≤_};
-ghost use lib.ListN.{length, drop};
+ghost use lib.ListN.{length};
 ghost use Rattle.splitter.specs.Push.{rowWidth};
 ghost use Rattle.sheet.specs.Layout.{line, endLine, lowDigits, rateCell, stampCell};
 ghost use Rattle.sheet.specs.Sheet.{linesOf};
-ghost use Rattle.sheet.specs.Step.{put, Room};
+ghost use Rattle.sheet.specs.Step.{put, Room, lineLength};
+ghost use Rattle.sheet.specs.Parts.{frontOf, backOf, backLength, RowFits, RowsFit};
 
 // How many numbers a row has.
 pub const ROW_LEN: usize = 8;
@@ -33,27 +34,41 @@ fn stamp_cell(present: i64, stamp: i64) -> Cell
     Cell::Absent
 }
 
-// Writes the line of a frame from a place of the text on, by the row that begins at place from, and answers the place behind it. Of the
-// number, the low eight digits are given.
-pub fn put_line(text: &mut [u8], at: usize, number: u32, rows: &[i64], from: usize) -> usize
-    requires { ⌜ (number ≡ lowDigits number) × (from + rowWidth ≤ length (now rows)) × Room at (length (line number (drop from (now rows)))) (now text) ⌝ }
-    ensures { λ r. ⌜ r ≡ at + length (line number (drop from (now (rows .entry)))) ⌝ }
-    ensures { λ _. ⌜ now (text .exit) ≡ put at (line number (drop from (now (rows .entry)))) (now (text .entry)) ⌝ }
+// The first four columns: number, length, kind, samples.
+fn put_front(text: &mut [u8], at: usize, number: u32, row: &[i64]) -> usize
+    requires { ⌜ (rowWidth ≤ length (now row)) × Room at (length (frontOf number (now row))) (now text) ⌝ }
+    ensures { λ r. ⌜ r ≡ at + length (frontOf number (now (row .entry))) ⌝ }
+    ensures { λ _. ⌜ now (text .exit) ≡ put at (frontOf number (now (row .entry))) (now (text .entry)) ⌝ }
 {
     let mut end = put_cell(text, at, 8, Cell::Number(number as i64), b' ');
-    end = put_cell(text, end, 5, Cell::Number(rows[from]), b' ');
-    end = put_cell(text, end, 2, Cell::Number(rows[from + 1]), b' ');
-    end = put_cell(text, end, 5, Cell::Number(rows[from + 2]), b' ');
-    end = put_cell(text, end, 6, Cell::Number(rows[from + 3]), b' ');
-    end = put_cell(text, end, 2, Cell::Number(rows[from + 4]), b' ');
-    end = put_cell(text, end, 7, rate_cell(rows[from + 5]), b' ');
-    put_cell(
-        text,
-        end,
-        20,
-        stamp_cell(rows[from + 6], rows[from + 7]),
-        b'\n',
-    )
+    end = put_cell(text, end, 5, Cell::Number(row[0]), b' ');
+    end = put_cell(text, end, 2, Cell::Number(row[1]), b' ');
+    put_cell(text, end, 5, Cell::Number(row[2]), b' ')
+}
+
+// The last four columns: rate, channels, bit rate, stamp.
+fn put_back(text: &mut [u8], at: usize, row: &[i64]) -> usize
+    requires { ⌜ (rowWidth ≤ length (now row)) × RowFits (now row) × Room at backLength (now text) ⌝ }
+    ensures { λ _. ⌜ length (backOf (now (row .entry))) ≡ backLength ⌝ }
+    ensures { λ r. ⌜ r ≡ at + length (backOf (now (row .entry))) ⌝ }
+    ensures { λ _. ⌜ now (text .exit) ≡ put at (backOf (now (row .entry))) (now (text .entry)) ⌝ }
+{
+    let mut end = put_cell(text, at, 6, Cell::Number(row[3]), b' ');
+    end = put_cell(text, end, 2, Cell::Number(row[4]), b' ');
+    end = put_cell(text, end, 7, rate_cell(row[5]), b' ');
+    put_cell(text, end, 20, stamp_cell(row[6], row[7]), b'\n')
+}
+
+// Writes the line of a frame from a place of the text on, by its row, and answers the place behind it. Of the number, the low eight digits
+// are given.
+pub fn put_line(text: &mut [u8], at: usize, number: u32, row: &[i64]) -> usize
+    requires { ⌜ (number ≡ lowDigits number) × (rowWidth ≤ length (now row)) × RowFits (now row) × Room at lineLength (now text) ⌝ }
+    ensures { λ _. ⌜ length (line number (now (row .entry))) ≡ lineLength ⌝ }
+    ensures { λ r. ⌜ r ≡ at + length (line number (now (row .entry))) ⌝ }
+    ensures { λ _. ⌜ now (text .exit) ≡ put at (line number (now (row .entry))) (now (text .entry)) ⌝ }
+{
+    let middle = put_front(text, at, number, row);
+    put_back(text, middle, row)
 }
 
 // The low eight digits of the number of the k-th line after that number.
@@ -66,13 +81,19 @@ pub fn number_after(number: u32, k: usize) -> u32
 
 // Writes the lines of the first count rows to the front of the text, and answers how many bytes they have.
 pub fn put_lines(text: &mut [u8], number: u32, rows: &[i64], count: usize) -> usize
-    requires { ⌜ (count * rowWidth ≤ length (now rows)) × Room 0 (length (linesOf number count (now rows))) (now text) ⌝ }
+    requires { ⌜ (count * rowWidth ≤ length (now rows)) × RowsFit count (now rows) × Room 0 (count * lineLength) (now text) ⌝ }
     ensures { λ r. ⌜ r ≡ length (linesOf number count (now (rows .entry))) ⌝ }
     ensures { λ _. ⌜ now (text .exit) ≡ put 0 (linesOf number count (now (rows .entry))) (now (text .entry)) ⌝ }
 {
     let mut at = 0;
     for k in 0..count {
-        at = put_line(text, at, number_after(number, k + 1), rows, k * ROW_LEN);
+        let from = k * ROW_LEN;
+        at = put_line(
+            text,
+            at,
+            number_after(number, k + 1),
+            &rows[from..from + ROW_LEN],
+        );
     }
     at
 }

@@ -9,8 +9,12 @@ use splitter::Pts;
 use splitter::PushAnswer;
 use splitter::SplitterRefusal;
 ghost use mathlib.Core.Path.{_≡_};
-ghost use Rattle.sheet.specs.Sheet.{timeOf};
-ghost use Rattle.sheet.specs.Step.{newSheetOf, sheetAnswer, step, lent, finish};
+ghost use Prim.Native.Nat.{_*_, _≤_};
+ghost use lib.ListN.{length};
+ghost use Rattle.splitter.specs.Push.{over, rowWidth};
+ghost use Rattle.sheet.specs.Sheet.{timeOf, linesOf};
+ghost use Rattle.sheet.specs.Parts.{RowsFit};
+ghost use Rattle.sheet.specs.Step.{Room, lineLength, newSheetOf, sheetAnswer, written, sheetAfter, step, lent, finish};
 
 // How many bytes the line of a frame has.
 const LINE_LEN: usize = 63;
@@ -94,22 +98,35 @@ impl CutSheet {
         let splitter = self.splitter;
         let pushed = splitter.push(payload, self.pts(), pending, out, rows);
         let answer = pushed.answer;
-        let count = match answer {
-            PushAnswer::Refused(refusal) => {
-                return CutLines {
-                    answer: SheetAnswer::Refused(refusal),
-                    sheet: self,
-                };
-            }
-            PushAnswer::NotTaken => 0,
-            PushAnswer::Taken(written) => written.rows,
-        };
-        let len = put_lines(text, self.number, rows, count);
         let after = pushed.splitter;
+        match answer {
+            PushAnswer::Refused(refusal) => CutLines {
+                answer: SheetAnswer::Refused(refusal),
+                sheet: self,
+            },
+            PushAnswer::NotTaken => self.with_lines(after, rows, 0, text),
+            PushAnswer::Taken(written) => self.with_lines(after, rows, written.rows, text),
+        }
+    }
+
+    // Writes the lines of the first count rows. The splitter is in that state after them.
+    fn with_lines(
+        self,
+        splitter: AudioFrameSplitter,
+        rows: &[i64],
+        count: usize,
+        text: &mut [u8],
+    ) -> CutLines
+        requires { ⌜ (count * rowWidth ≤ length (now rows)) × RowsFit count (now rows) × Room 0 (count * lineLength) (now text) ⌝ }
+        ensures { λ r. ⌜ sheetAnswer (r .answer) ≡ written (length (linesOf (self .number) count (now (rows .entry)))) ⌝ }
+        ensures { λ r. ⌜ r .sheet ≡ sheetAfter self splitter count ⌝ }
+        ensures { λ _. ⌜ now (text .exit) ≡ over (linesOf (self .number) count (now (rows .entry))) (now (text .entry)) ⌝ }
+    {
+        let len = put_lines(text, self.number, rows, count);
         CutLines {
             answer: SheetAnswer::Written(len),
             sheet: CutSheet {
-                splitter: after,
+                splitter,
                 number: number_after(self.number, count),
                 begun: true,
             },

@@ -1,5 +1,5 @@
 -- `wrapped` is safe: neither -1 - x nor the casts lose anything.
-use Rattle.bench.proofs.Signed.{small-casts, small-fits, small-held, held-at-least-zero, held-below}
+use Rattle.splitter.proofs.Signed.{small-casts, small-fits, small-held, held-at-least-zero, held-below}
 use native.Mathlib.Omega.{arith}
 use borrow.Author.Needs.{needs}
 use Rattle.bench.proofs.totals.wrapped.Statement.{statement}

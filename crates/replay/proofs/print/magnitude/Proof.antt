@@ -1,5 +1,5 @@
 -- `magnitude` is safe: neither -1 - x nor the casts lose anything.
-use Rattle.replay.proofs.Signed.{small-casts, small-fits, small-held, held-at-least-zero, held-below}
+use Rattle.splitter.proofs.Signed.{small-casts, small-fits, small-held, held-at-least-zero, held-below}
 use native.Mathlib.Omega.{arith}
 use borrow.Author.Needs.{needs}
 use Rattle.replay.proofs.print.magnitude.Statement.{statement}

@@ -2,15 +2,23 @@
 -- from its bits, as `toZ w64 (ofZ w64 x)`.
 use mathlib.Core.Path.{_≡_, sym, ap, subst, _∙_}
 use mathlib.Core.Bool.{true, false}
-use Prim.Native.Nat.{ℕ, zero, suc, _^_, _<_}
+use Prim.Native.Nat.{ℕ, zero, suc, _+_, _^_, _<_}
 use native.Mathlib.Omega.{arith}
 use borrow.Author.Tests.{leb-false}
 use lib.Dec.{T}
-use lib.IntN.{ℤ, pos, negsuc, predℤ, natAbs, _-ℤ_, +ℤ-idl, predℤ-+ℤ}
+use lib.IntN.{ℤ, pos, negsuc, predℤ, natAbs, _+ℤ_, _-ℤ_, +ℤ-idl, +ℤ-idr, predℤ-+ℤ}
 use lib.Signed.{leZ, nonNeg}
 use mir.Syntax.{w64}
 use mir.Val.{Fits, SFits, toZ, ofZ}
-use mir.Facts.{toZ-ofZ}
+use mir.Facts.{toZ-pos, toZ-ofZ}
+
+below-zero : (a n : ℕ) → a + n < 2 ^ 63 → SFits w64 (negsuc a -ℤ pos n)
+below-zero a zero h = rw +ℤ-idr (record { sfits = omega arith })
+below-zero a (suc n) h = record { sfits = omega arith }
+
+-- -1 - a less n
+pub minus-fits : (a n : ℕ) → a + n < 2 ^ 63 → SFits w64 (negsuc a -ℤ toZ w64 n)
+minus-fits a n h = rw (toZ-pos w64 {n = n} (omega arith)) (below-zero a n h)
 
 -- a number from 0 to 2^63 - 1
 pub record Small (z : ℤ) : Type 0 where
@@ -49,3 +57,16 @@ pub held-below : {x : ℤ} → SFits w64 x → leZ (pos 0) (toZ w64 (ofZ w64 x))
 held-below {x} f e =
     subst (λ (y : ℤ). Small (negsuc zero -ℤ y)) (sym (toZ-ofZ f))
     (below x f (subst (λ (y : ℤ). leZ (pos 0) y ≡ false) (toZ-ofZ f) e))
+
+-- how far such a number is from 0
+below-size : (x : ℤ) → leZ (pos 0) x ≡ false → natAbs (negsuc zero -ℤ x) + 1 ≡ natAbs x
+below-size (pos n) e = absurd (omega (arith, leb-false 0 n e))
+below-size (negsuc n) e = rw (beyond n) (omega arith)
+
+pub held-size : {x : ℤ} → SFits w64 x → leZ (pos 0) (toZ w64 (ofZ w64 x)) ≡ false
+    → natAbs (toZ w64 (ofZ w64 (negsuc zero -ℤ toZ w64 (ofZ w64 x)))) + 1 ≡ natAbs x
+held-size {x} f e =
+    let q : leZ (pos 0) x ≡ false = subst (λ (y : ℤ). leZ (pos 0) y ≡ false) (toZ-ofZ f) e in
+    ap (λ (z : ℤ). natAbs z + 1) (toZ-ofZ (small-fits (held-below f e)))
+    ∙ ap (λ (y : ℤ). natAbs (negsuc zero -ℤ y) + 1) (toZ-ofZ f)
+    ∙ below-size x q

@@ -1,0 +1,37 @@
+-- By whether the text has room.
+use native.Mathlib.Omega.{arith}
+use denote.Ref.{now}
+use Rattle.sheet.proofs.Columns.{end-most}
+use Rattle.sheet.proofs.Stepping.{finish-tight, finish-wrote}
+use borrow.Author.Needs.{needs}
+use Rattle.sheet.proofs.sheet.CutSheet.finish.Statement.{statement}
+use Rattle.sheet.proofs.sheet.CutSheet.finish.Tie as tie
+
+returns : tie.Need-returns
+returns c = finish-tight (c .before .before .args .self) (now (c .before .before .args .text)) (omega arith)
+
+discarded-bytes-requires : tie.Need-discarded-bytes-requires
+discarded-bytes-requires c κs = search needs
+
+pending-bytes-requires : tie.Need-pending-bytes-requires
+pending-bytes-requires c κs = search needs
+
+put-end-line-requires : tie.Need-put-end-line-requires
+put-end-line-requires c κs = omega (arith, end-most (c .before .discarded-bytes .result) (c .pending-bytes .result) (omega arith) (omega arith))
+
+same-length : tie.Need-same-length
+same-length c = search needs
+
+returns-2 : tie.Need-returns-2
+returns-2 c = finish-wrote (c .before .before .before .before .before .before .before .before .before .args .self) (now (c .before .before .before .before .before .before .before .before .before .args .text)) (c .before .before .put-end-line .last .0) (c .before .before .put-end-line .result) (c .before .before .before .before .discarded-bytes .result) (c .before .before .before .pending-bytes .result) (omega arith) (c .before .before .before .before .discarded-bytes .ensures) (c .before .before .before .pending-bytes .ensures) (c .before .before .put-end-line .ensures .0) (c .before .before .put-end-line .ensures .1)
+
+pub finish-spec : {M : Type 1} → statement M
+finish-spec =
+    tie.close
+    (tie.spec
+    returns
+    discarded-bytes-requires
+    pending-bytes-requires
+    put-end-line-requires
+    same-length
+    returns-2)

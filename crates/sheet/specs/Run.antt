@@ -1,0 +1,40 @@
+-- A RUN: a step for each payload, one after the other, and all that they write; and the last line. The splitter's output, the rows and the
+-- text may be others for each step; the pending buffer goes from step to step.
+use mathlib.Core.Path.{_≡_}
+use mathlib.Core.Bool.{false}
+use mathlib.Core.List.{List, [], _∷_, _++_}
+use Prim.Native.Nat.{ℕ, _≤_}
+use lib.IntN.{ℤ}
+use lib.ListN.{length, take}
+use Rattle.sheet.specs.Sheet.{endOf, outSize, rowsSize}
+use Rattle.sheet.specs.Step.{Wrote, refused, written, Step, lent, step, tightText}
+use Rattle.sheet.specs.declared.sheet.CutSheet.{CutSheet}
+
+-- what one step is handed besides the state and the pending buffer
+pub record Call : Type 0 where
+  pub payload : List ℕ
+  pub out : List ℕ
+  pub rows : List ℤ
+  pub text : List ℕ
+
+-- the buffers are long enough for any payload
+pub record Roomy (k : Call) : Type 0 where
+  pub out-room : outSize ≤ length (k .out)
+  pub rows-room : rowsSize ≤ length (k .rows)
+  pub text-room : tightText (length (k .text)) (length (k .rows)) ≡ false
+
+abbrev pub AllRoomy : List Call → Type 0
+AllRoomy [] = Unit {0}
+AllRoomy (k ∷ ks) = Roomy k × AllRoomy ks
+
+abbrev pub stepOf : CutSheet → List ℕ → Call → Step
+stepOf c pend k = step c (k .payload) (lent pend (k .out) (k .rows) (k .text))
+
+-- a refused step is the last; one that wrote n bytes gives the first n of its text, and the run goes on with what it left
+abbrev pub runOn : Wrote → Step → (CutSheet → List ℕ → List ℕ) → List ℕ
+runOn (refused k) a go = endOf (a .state .splitter)
+runOn (written n) a go = take n (a .text) ++ go (a .state) (a .pend)
+
+abbrev pub runSteps : CutSheet → List ℕ → List Call → List ℕ
+runSteps c pend [] = endOf (c .splitter)
+runSteps c pend (k ∷ ks) = runOn ((stepOf c pend k) .answer) (stepOf c pend k) (λ d b. runSteps d b ks)
