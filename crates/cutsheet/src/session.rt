@@ -1,0 +1,265 @@
+// A run over standard input: its first line, then the stream, payload by payload.
+use crate::input::Filled;
+use crate::input::fill;
+use crate::output::Output;
+use crate::output::TEXT_LEN;
+use crate::output::print;
+use crate::output::report_read;
+use crate::output::report_write;
+use sheet::CutLines;
+use sheet::CutSheet;
+use sheet::FirstLine;
+use sheet::NewSheet;
+use sheet::SheetAnswer;
+use sheet::first_line;
+ghost use mathlib.Core.Path.{_≡_};
+ghost use Prim.Native.Nat.{_+_, _-_, _≤_, _<_, min};
+ghost use lib.ListN.{length};
+ghost use Rattle.sheet.specs.Sheet.{payloadSize, endOf};
+ghost use Rattle.sheet.specs.Step.{endMost};
+ghost use Rattle.cutsheet.specs.Bounds.{Bounded, Payload, Roomy, Within};
+
+const FIRST_LINE_LEN: usize = 2;
+
+const PAYLOAD_LEN: usize = 4096;
+
+// Sixteen payloads: a read for each would cost more time than the cutting.
+const BLOCK_LEN: usize = 65536;
+
+// The shortest buffers that the splitter takes with up to 8190 bytes pending and a payload.
+const PENDING_LEN: usize = 8190;
+
+const OUT_LEN: usize = 12286;
+
+const ROWS_LEN: usize = 14040;
+
+pub struct Session {
+    pub sheet: CutSheet,
+    pub output: Output,
+    // Whether to go on reading.
+    pub open: bool,
+    pub read_failed: bool,
+}
+
+pub fn run() {
+    let mut line = [0u8; FIRST_LINE_LEN];
+    let filled = fill(&mut line);
+    if filled.failed {
+        report_read();
+        return;
+    }
+    let len = filled.len;
+    match first_line(&line[0..len]) {
+        FirstLine::Code(code) => print_coded(code),
+        FirstLine::Malformed => print(b"?\n"),
+    }
+}
+
+// A code that the sheet refuses is malformed too.
+fn print_coded(code: u32) {
+    match CutSheet::new(code) {
+        NewSheet::Made(sheet) => print_sheet(sheet),
+        NewSheet::Refused(_) => print(b"?\n"),
+    }
+}
+
+// A proved loop has to end, and nothing says that the input does, so the loop counts its turns down from a number that no run uses up.
+fn print_sheet(sheet: CutSheet) {
+    let mut block = [0u8; BLOCK_LEN];
+    let mut pending = [0u8; PENDING_LEN];
+    let mut out = [0u8; OUT_LEN];
+    let mut rows = [0i64; ROWS_LEN];
+    let mut text = [0u8; TEXT_LEN];
+    let mut session = Session::new(sheet);
+    let mut turns = u64::MAX;
+    while turns > 0 && session.open {
+        session = session.cut_next(&mut block, &mut pending, &mut out, &mut rows, &mut text);
+        turns -= 1;
+    }
+    session.end(&mut text);
+}
+
+impl Session {
+    fn new(sheet: CutSheet) -> Self
+        ensures { λ r. ⌜ Bounded (r .output) ⌝ }
+    {
+        Session {
+            sheet,
+            output: Output::new(),
+            open: true,
+            read_failed: false,
+        }
+    }
+
+    // Reads a block and cuts it.
+    fn cut_next(
+        self,
+        block: &mut [u8; BLOCK_LEN],
+        pending: &mut [u8; PENDING_LEN],
+        out: &mut [u8; OUT_LEN],
+        rows: &mut [i64; ROWS_LEN],
+        text: &mut [u8; TEXT_LEN],
+    ) -> Self
+        requires { ⌜ Bounded (self .output) ⌝ }
+        ensures { λ r. ⌜ Bounded (r .output) ⌝ }
+    {
+        let filled = fill(block);
+        let len = usable(filled);
+        let bytes: &[u8] = block;
+        let session = self.cut_block(&bytes[0..len], pending, out, rows, text);
+        session.after_read(filled)
+    }
+
+    // A block that is not full is the last one.
+    fn after_read(mut self, filled: Filled) -> Self
+        requires { ⌜ Bounded (self .output) ⌝ }
+        ensures { λ r. ⌜ Bounded (r .output) ⌝ }
+    {
+        if filled.len < BLOCK_LEN {
+            self.open = false;
+        }
+        self.read_failed = filled.failed;
+        self
+    }
+
+    fn cut_block(
+        self,
+        block: &[u8],
+        pending: &mut [u8; PENDING_LEN],
+        out: &mut [u8; OUT_LEN],
+        rows: &mut [i64; ROWS_LEN],
+        text: &mut [u8; TEXT_LEN],
+    ) -> Self
+        requires { ⌜ Bounded (self .output) ⌝ }
+        ensures { λ r. ⌜ Bounded (r .output) ⌝ }
+    {
+        let mut session = self;
+        let mut at = 0;
+        while at < block.len() && session.open {
+            let end = payload_end(at, block.len());
+            session = session.cut_payload(&block[at..end], pending, out, rows, text);
+            at = end;
+        }
+        session
+    }
+
+    // The lines of a payload go behind those that are still to be written.
+    fn cut_payload(
+        self,
+        payload: &[u8],
+        pending: &mut [u8; PENDING_LEN],
+        out: &mut [u8; OUT_LEN],
+        rows: &mut [i64; ROWS_LEN],
+        text: &mut [u8; TEXT_LEN],
+    ) -> Self
+        requires { ⌜ Bounded (self .output) × Payload (length (now payload)) ⌝ }
+        ensures { λ r. ⌜ Bounded (r .output) ⌝ }
+    {
+        let output = self.output;
+        let roomy = output.with_room(text);
+        let len = roomy.len;
+        let sheet = self.sheet;
+        let cut = cut_from(sheet, payload, pending, out, rows, text, len);
+        let next = cut.sheet;
+        let answer = cut.answer;
+        let SheetAnswer::Written(count) = answer else {
+            return self.closed(roomy);
+        };
+        let end = len + count;
+        Session {
+            sheet: next,
+            output: Output {
+                len: end,
+                failed: roomy.failed,
+            },
+            open: !roomy.failed,
+            read_failed: false,
+        }
+    }
+
+    // The sheet ends at a payload that is refused.
+    fn closed(self, output: Output) -> Self
+        requires { ⌜ Bounded output ⌝ }
+        ensures { λ r. ⌜ Bounded (r .output) ⌝ }
+    {
+        let sheet = self.sheet;
+        Session {
+            sheet,
+            output,
+            open: false,
+            read_failed: false,
+        }
+    }
+
+    // Writes the last line, unless a read failed: a sheet without it is seen not to be whole.
+    fn end(self, text: &mut [u8; TEXT_LEN])
+        requires { ⌜ Bounded (self .output) ⌝ }
+    {
+        let output = self.output;
+        if self.read_failed {
+            let written = output.written(text);
+            report_write(!written.failed);
+            report_read();
+            return;
+        }
+        let roomy = output.with_room(text);
+        let sheet = self.sheet;
+        let whole = Output {
+            len: finish_from(sheet, text, roomy.len),
+            failed: roomy.failed,
+        };
+        let written = whole.written(text);
+        report_write(!written.failed);
+    }
+}
+
+// How many bytes of a block to cut. Where a read failed, a payload that is not whole is left alone: with the rest of it, it might be cut
+// otherwise.
+fn usable(filled: Filled) -> usize
+    ensures { λ r. ⌜ r ≤ filled .len ⌝ }
+{
+    let len = filled.len;
+    if filled.failed {
+        return len - len % PAYLOAD_LEN;
+    }
+    len
+}
+
+fn payload_end(at: usize, len: usize) -> usize
+    requires { ⌜ at < len ⌝ }
+    ensures { λ r. ⌜ r ≡ at + min payloadSize (len - at) ⌝ }
+{
+    if PAYLOAD_LEN < len - at {
+        return at + PAYLOAD_LEN;
+    }
+    len
+}
+
+// Lends the text from a place on. The call is by itself, so that the proofs around it have nothing of its contract to go through.
+fn cut_from(
+    sheet: CutSheet,
+    payload: &[u8],
+    pending: &mut [u8],
+    out: &mut [u8],
+    rows: &mut [i64],
+    text: &mut [u8],
+    at: usize,
+) -> CutLines
+    requires { ⌜ Payload (length (now payload)) ⌝ }
+    requires { ⌜ at ≤ length (now text) ⌝ }
+    requires { ⌜ Roomy (length (now pending)) (length (now out)) (length (now rows)) (length (now text) - at) ⌝ }
+    ensures { λ r. ⌜ Within (length (now (text .entry)) - at) (r .answer) ⌝ }
+{
+    sheet.cut(payload, pending, out, rows, &mut text[at..])
+}
+
+// Writes the last line from a place of the text on, where it has room, and answers the place behind it.
+fn finish_from(sheet: CutSheet, text: &mut [u8], at: usize) -> usize
+    requires { ⌜ at + endMost ≤ length (now text) ⌝ }
+    ensures { λ r. ⌜ (r ≡ at + length (endOf (sheet .splitter))) × (r ≤ length (now (text .entry))) ⌝ }
+{
+    match sheet.finish(&mut text[at..]) {
+        SheetAnswer::Written(count) => at + count,
+        SheetAnswer::Refused(_) => at,
+    }
+}
