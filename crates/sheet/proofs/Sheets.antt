@@ -224,6 +224,11 @@ payloads-small =
     (λ l h ih.
     subst AllPayloads (sym (payloads-next l h)) ((omega (arith, length-take payloadSize l), omega (arith, length-take payloadSize l)), ih))
 
+-- 9000 bytes, for instance, are two payloads of 4096 bytes and one of 808
+pub payloads-instance : map length (payloadsOf (replicate 9000 0)) ≡ 4096 ∷ 4096 ∷ 808 ∷ []
+unfolding payloadsOf
+payloads-instance = refl
+
 -- a stream's front of whole payloads, and the rest of it
 pub payloads-join : (a b : List ℕ) → length a % payloadSize ≡ 0 → payloadsOf (a ++ b) ≡ payloadsOf a ++ payloadsOf b
 payloads-join a b =

@@ -12,22 +12,30 @@ padding-requires : tie.Need-padding-requires
 padding-requires c κs = search needs
 
 add-start : tie.Need-add-start
-add-start c = omega (arith, right-size (c .before .before .args .width) (minus ∷ []), c .before .before .pre)
+add-start c = let s = c .before .before in omega (arith, right-size (s .args .width) (minus ∷ []), s .pre)
 
 put-spaces-requires : tie.Need-put-spaces-requires
-put-spaces-requires c κs = (omega (arith, right-size (c .before .before .before .args .width) (minus ∷ []), c .before .before .before .pre), omega (arith, right-size (c .before .before .before .args .width) (minus ∷ []), c .before .before .before .pre))
+put-spaces-requires c κs = let s = c .before .before .before in (omega (arith, right-size (s .args .width) (minus ∷ []), s .pre), omega (arith, right-size (s .args .width) (minus ∷ []), s .pre))
 
 slice-write-text : tie.Need-slice-write-text
-slice-write-text c = omega (arith, right-size (c .before .before .before .before .before .before .args .width) (minus ∷ []), c .before .before .before .before .before .before .pre)
+slice-write-text c = let s = c .before .before .before .before .before .before in omega (arith, right-size (s .args .width) (minus ∷ []), s .pre)
 
 add-result : tie.Need-add-result
-add-result c = omega (arith, right-size (c .before .before .before .before .before .before .args .width) (minus ∷ []), c .before .before .before .before .before .before .pre)
+add-result c = let s = c .before .before .before .before .before .before in omega (arith, right-size (s .args .width) (minus ∷ []), s .pre)
 
 same-length : tie.Need-same-length
 same-length c = search needs
 
 returns : tie.Need-returns
-returns c = (omega (arith, right-size (c .before .before .before .before .before .before .args .width) (minus ∷ []), c .before .before .before .before .before .before .pre), one-put (c .before .before .before .before .before .before .args .at) (c .before .before .before .before .before .before .args .width) (c .before .before .before .before .padding .result) minus (now (c .before .before .before .before .before .before .args .text)) (c .before .before .put-spaces .last .0) (c .before .before .before .before .padding .ensures) (omega (arith, right-size (c .before .before .before .before .before .before .args .width) (minus ∷ []), c .before .before .before .before .before .before .pre)) (omega arith) (c .before .before .put-spaces .ensures))
+returns c =
+    let s = c .before .before .before .before .before .before in
+    let size = right-size (s .args .width) (minus ∷ []) in
+    let padding = c .before .before .before .before .padding in
+    let spaces = c .before .before .put-spaces in (
+      omega (arith, size, s .pre),
+      one-put (s .args .at) (s .args .width) (padding .result) minus (now (s .args .text)) (spaces .last .0)
+          (padding .ensures) (omega (arith, size, s .pre)) (omega arith) (spaces .ensures),
+    )
 
 pub put-absent-spec : {M : Type 1} → statement M
 put-absent-spec =

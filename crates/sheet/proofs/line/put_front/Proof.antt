@@ -1,44 +1,83 @@
 -- Four columns in a row.
+use mathlib.Core.Path.{_≡_, ap}
+use Prim.Native.Nat.{ℕ, _^_, _<_}
 use native.Mathlib.Omega.{arith}
-use lib.IntN.{pos}
-use lib.ListN.{getD}
+use lib.IntN.{ℤ, pos}
+use lib.ListN.{length, getD}
+use lib.Signed.{mag}
 use mir.Syntax.{w64}
 use mir.Val.{toZ, ofZ}
 use denote.Ref.{now}
-use Rattle.sheet.proofs.Halves.{element, widened, front-size, wide-as, front-put}
+use Rattle.sheet.specs.Layout.{signed, right}
+use Rattle.sheet.proofs.Halves.{element, widened, front-size, front-put}
 use borrow.Author.Needs.{needs}
 use Rattle.sheet.proofs.line.put_front.Statement.{statement}
 use Rattle.sheet.proofs.line.put_front.Tie as tie
+
+-- the number, as wide as its digits make it
+first : (s : tie.Start) → length (right 8 (signed (toZ w64 (s .args .number)))) ≡ length (right 8 (signed (pos (s .args .number))))
+first s = ap (λ (z : ℤ). length (right 8 (signed z))) (widened (s .args .number) (omega arith))
+
+-- a column of the row, as wide as its number makes it
+wide : (s : tie.Start) (w i : ℕ) → mag (getD (now (s .args .row)) i (pos 0)) < 2 ^ 63
+    → length (right w (signed (toZ w64 (ofZ w64 (getD (now (s .args .row)) i (pos 0)))))) ≡ length (right w (signed (getD (now (s .args .row)) i (pos 0))))
+wide s w i h = ap (λ (z : ℤ). length (right w (signed z))) (element (getD (now (s .args .row)) i (pos 0)) h)
 
 cast-t8 : tie.Need-cast-t8
 cast-t8 c = search needs
 
 put-cell-requires : tie.Need-put-cell-requires
-put-cell-requires c κs = omega (arith, front-size (c .before .before .args .number) (now (c .before .before .args .row)), wide-as 8 (toZ w64 (c .before .before .args .number)) (pos (c .before .before .args .number)) (widened (c .before .before .args .number) (omega arith)), c .before .before .pre .1)
+put-cell-requires c κs =
+    let s = c .before .before in
+    omega (arith, front-size (s .args .number) (now (s .args .row)), first s, s .pre .1)
 
 shared-slice-copy-out-t8 : tie.Need-shared-slice-copy-out-t8
 shared-slice-copy-out-t8 c = search needs
 
 put-cell-requires-2 : tie.Need-put-cell-requires-2
-put-cell-requires-2 c κs = omega (arith, front-size (c .before .before .before .before .before .before .before .args .number) (now (c .before .before .before .before .before .before .before .args .row)), wide-as 8 (toZ w64 (c .before .before .before .before .before .before .before .args .number)) (pos (c .before .before .before .before .before .before .before .args .number)) (widened (c .before .before .before .before .before .before .before .args .number) (omega arith)), wide-as 5 (toZ w64 (ofZ w64 (getD (now (c .before .before .before .before .before .before .before .args .row)) 0 (pos 0)))) (getD (now (c .before .before .before .before .before .before .before .args .row)) 0 (pos 0)) (element (getD (now (c .before .before .before .before .before .before .before .args .row)) 0 (pos 0)) (c .t8 .given)), c .before .before .before .before .before .before .before .pre .1)
+put-cell-requires-2 c κs =
+    let s = c .before .before .before .before .before .before .before in
+    omega (arith, front-size (s .args .number) (now (s .args .row)), first s, wide s 5 0 (c .t8 .given), s .pre .1)
 
 shared-slice-copy-out-t8-2 : tie.Need-shared-slice-copy-out-t8-2
 shared-slice-copy-out-t8-2 c = search needs
 
 put-cell-requires-3 : tie.Need-put-cell-requires-3
-put-cell-requires-3 c κs = omega (arith, front-size (c .before .before .before .before .before .before .before .before .before .before .before .before .args .number) (now (c .before .before .before .before .before .before .before .before .before .before .before .before .args .row)), wide-as 8 (toZ w64 (c .before .before .before .before .before .before .before .before .before .before .before .before .args .number)) (pos (c .before .before .before .before .before .before .before .before .before .before .before .before .args .number)) (widened (c .before .before .before .before .before .before .before .before .before .before .before .before .args .number) (omega arith)), wide-as 5 (toZ w64 (ofZ w64 (getD (now (c .before .before .before .before .before .before .before .before .before .before .before .before .args .row)) 0 (pos 0)))) (getD (now (c .before .before .before .before .before .before .before .before .before .before .before .before .args .row)) 0 (pos 0)) (element (getD (now (c .before .before .before .before .before .before .before .before .before .before .before .before .args .row)) 0 (pos 0)) (c .before .before .before .before .before .t8 .given)), wide-as 2 (toZ w64 (ofZ w64 (getD (now (c .before .before .before .before .before .before .before .before .before .before .before .before .args .row)) 1 (pos 0)))) (getD (now (c .before .before .before .before .before .before .before .before .before .before .before .before .args .row)) 1 (pos 0)) (element (getD (now (c .before .before .before .before .before .before .before .before .before .before .before .before .args .row)) 1 (pos 0)) (c .t82 .given)), c .before .before .before .before .before .before .before .before .before .before .before .before .pre .1)
+put-cell-requires-3 c κs =
+    let s = c .before .before .before .before .before .before .before .before .before .before .before .before in
+    omega (arith, front-size (s .args .number) (now (s .args .row)), first s, wide s 5 0 (c .before .before .before .before .before .t8 .given), wide s 2 1 (c .t82 .given), s .pre .1)
 
 shared-slice-copy-out-t8-3 : tie.Need-shared-slice-copy-out-t8-3
 shared-slice-copy-out-t8-3 c = search needs
 
 put-cell-requires-4 : tie.Need-put-cell-requires-4
-put-cell-requires-4 c κs = omega (arith, front-size (c .before .before .before .before .before .before .before .before .before .before .before .before .before .before .before .before .before .args .number) (now (c .before .before .before .before .before .before .before .before .before .before .before .before .before .before .before .before .before .args .row)), wide-as 8 (toZ w64 (c .before .before .before .before .before .before .before .before .before .before .before .before .before .before .before .before .before .args .number)) (pos (c .before .before .before .before .before .before .before .before .before .before .before .before .before .before .before .before .before .args .number)) (widened (c .before .before .before .before .before .before .before .before .before .before .before .before .before .before .before .before .before .args .number) (omega arith)), wide-as 5 (toZ w64 (ofZ w64 (getD (now (c .before .before .before .before .before .before .before .before .before .before .before .before .before .before .before .before .before .args .row)) 0 (pos 0)))) (getD (now (c .before .before .before .before .before .before .before .before .before .before .before .before .before .before .before .before .before .args .row)) 0 (pos 0)) (element (getD (now (c .before .before .before .before .before .before .before .before .before .before .before .before .before .before .before .before .before .args .row)) 0 (pos 0)) (c .before .before .before .before .before .before .before .before .before .before .t8 .given)), wide-as 2 (toZ w64 (ofZ w64 (getD (now (c .before .before .before .before .before .before .before .before .before .before .before .before .before .before .before .before .before .args .row)) 1 (pos 0)))) (getD (now (c .before .before .before .before .before .before .before .before .before .before .before .before .before .before .before .before .before .args .row)) 1 (pos 0)) (element (getD (now (c .before .before .before .before .before .before .before .before .before .before .before .before .before .before .before .before .before .args .row)) 1 (pos 0)) (c .before .before .before .before .before .t82 .given)), wide-as 5 (toZ w64 (ofZ w64 (getD (now (c .before .before .before .before .before .before .before .before .before .before .before .before .before .before .before .before .before .args .row)) 2 (pos 0)))) (getD (now (c .before .before .before .before .before .before .before .before .before .before .before .before .before .before .before .before .before .args .row)) 2 (pos 0)) (element (getD (now (c .before .before .before .before .before .before .before .before .before .before .before .before .before .before .before .before .before .args .row)) 2 (pos 0)) (c .t83 .given)), c .before .before .before .before .before .before .before .before .before .before .before .before .before .before .before .before .before .pre .1)
+put-cell-requires-4 c κs =
+    let s = c .before .before .before .before .before .before .before .before .before .before .before .before .before .before .before .before .before in
+    omega (
+      arith,
+      front-size (s .args .number) (now (s .args .row)),
+      first s,
+      wide s 5 0 (c .before .before .before .before .before .before .before .before .before .before .t8 .given),
+      wide s 2 1 (c .before .before .before .before .before .t82 .given),
+      wide s 5 2 (c .t83 .given),
+      s .pre .1,
+    )
 
 same-length : tie.Need-same-length
 same-length c = search needs
 
 returns : tie.Need-returns
-returns c = front-put (c .before .before .before .before .before .before .before .before .before .before .before .before .before .before .before .before .before .before .before .before .args .at) (now (c .before .before .before .before .before .before .before .before .before .before .before .before .before .before .before .before .before .before .before .before .args .text)) (c .before .before .before .before .before .before .before .before .before .before .before .before .before .before .before .before .before .put-cell .result) (c .before .before .before .before .before .before .before .before .before .before .before .before .put-cell2 .result) (c .before .before .before .before .before .before .before .put-cell3 .result) (c .before .before .put-cell4 .result) (c .before .before .before .before .before .before .before .before .before .before .before .before .before .before .before .before .before .put-cell .last .0) (c .before .before .before .before .before .before .before .before .before .before .before .before .put-cell2 .last .0) (c .before .before .before .before .before .before .before .put-cell3 .last .0) (c .before .before .put-cell4 .last .0) (c .before .before .before .before .before .before .before .before .before .before .before .before .before .before .before .before .before .before .before .before .args .number) (now (c .before .before .before .before .before .before .before .before .before .before .before .before .before .before .before .before .before .before .before .before .args .row)) (toZ w64 (c .before .before .before .before .before .before .before .before .before .before .before .before .before .before .before .before .before .before .before .before .args .number)) (toZ w64 (ofZ w64 (getD (now (c .before .before .before .before .before .before .before .before .before .before .before .before .before .before .before .before .before .before .before .before .args .row)) 0 (pos 0)))) (toZ w64 (ofZ w64 (getD (now (c .before .before .before .before .before .before .before .before .before .before .before .before .before .before .before .before .before .before .before .before .args .row)) 1 (pos 0)))) (toZ w64 (ofZ w64 (getD (now (c .before .before .before .before .before .before .before .before .before .before .before .before .before .before .before .before .before .before .before .before .args .row)) 2 (pos 0)))) (c .before .before .before .before .before .before .before .before .before .before .before .before .before .before .before .before .before .before .before .before .pre .1) (widened (c .before .before .before .before .before .before .before .before .before .before .before .before .before .before .before .before .before .before .before .before .args .number) (omega arith)) (element (getD (now (c .before .before .before .before .before .before .before .before .before .before .before .before .before .before .before .before .before .before .before .before .args .row)) 0 (pos 0)) (c .before .before .before .before .before .before .before .before .before .before .before .before .before .t8 .given)) (element (getD (now (c .before .before .before .before .before .before .before .before .before .before .before .before .before .before .before .before .before .before .before .before .args .row)) 1 (pos 0)) (c .before .before .before .before .before .before .before .before .t82 .given)) (element (getD (now (c .before .before .before .before .before .before .before .before .before .before .before .before .before .before .before .before .before .before .before .before .args .row)) 2 (pos 0)) (c .before .before .before .t83 .given)) (c .before .before .before .before .before .before .before .before .before .before .before .before .before .before .before .before .before .put-cell .ensures .0) (c .before .before .before .before .before .before .before .before .before .before .before .before .before .before .before .before .before .put-cell .ensures .1) (c .before .before .before .before .before .before .before .before .before .before .before .before .put-cell2 .ensures .0) (c .before .before .before .before .before .before .before .before .before .before .before .before .put-cell2 .ensures .1) (c .before .before .before .before .before .before .before .put-cell3 .ensures .0) (c .before .before .before .before .before .before .before .put-cell3 .ensures .1) (c .before .before .put-cell4 .ensures .0) (c .before .before .put-cell4 .ensures .1)
+returns c =
+    let s = c .before .before .before .before .before .before .before .before .before .before .before .before .before .before .before .before .before .before .before .before in
+    let row = now (s .args .row) in
+    let cell1 = c .before .before .before .before .before .before .before .before .before .before .before .before .before .before .before .before .before .put-cell in
+    let cell2 = c .before .before .before .before .before .before .before .before .before .before .before .before .put-cell2 in
+    let cell3 = c .before .before .before .before .before .before .before .put-cell3 in
+    let cell4 = c .before .before .put-cell4 in
+    front-put (s .args .at) (now (s .args .text)) (cell1 .result) (cell2 .result) (cell3 .result) (cell4 .result) (cell1 .last .0) (cell2 .last .0) (cell3 .last .0) (cell4 .last .0) (s .args .number) row
+    (toZ w64 (s .args .number)) (toZ w64 (ofZ w64 (getD row 0 (pos 0)))) (toZ w64 (ofZ w64 (getD row 1 (pos 0)))) (toZ w64 (ofZ w64 (getD row 2 (pos 0)))) (s .pre .1)
+    (widened (s .args .number) (omega arith)) (element (getD row 0 (pos 0)) (c .before .before .before .before .before .before .before .before .before .before .before .before .before .t8 .given)) (element (getD row 1 (pos 0)) (c .before .before .before .before .before .before .before .before .t82 .given)) (element (getD row 2 (pos 0)) (c .before .before .before .t83 .given))
+    (cell1 .ensures .0) (cell1 .ensures .1) (cell2 .ensures .0) (cell2 .ensures .1) (cell3 .ensures .0) (cell3 .ensures .1) (cell4 .ensures .0) (cell4 .ensures .1)
 
 pub put-front-spec : {M : Type 1} → statement M
 put-front-spec =

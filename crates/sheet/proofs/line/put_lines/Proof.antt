@@ -45,7 +45,16 @@ part-put-line-end : tie.Need-part-put-line-end Inv-loop μ-loop
 part-put-line-end c = omega (arith, c .before .before .before .before .before .pre .0)
 
 put-line-requires : tie.Need-put-line-requires Inv-loop μ-loop
-put-line-requires c κs = (low-said (c .before .number-after .result) (c .before .before .before .before .before .before .args .number + (c .before .before .before .before .loop .k + 1)) (c .before .number-after .ensures), simp (length-take, length-drop) (omega (arith, c .before .before .before .before .before .before .pre .0)), fits-take (c .before .before .before .before .loop .k * 8 + 8 - c .before .before .before .before .loop .k * 8) (drop (c .before .before .before .before .loop .k * 8) (now (c .before .before .before .before .before .before .args .rows))) (omega arith) (c .before .before .before .before .before .before .pre .1 (c .before .before .before .before .loop .k) (omega arith)), listed-room (c .before .before .before .before .before .before .args .number) (now (c .before .before .before .before .before .before .args .rows)) (now (c .before .before .before .before .before .before .args .text)) (c .before .before .before .before .loop .text) (c .before .before .before .before .loop .at) (c .before .before .before .before .loop .k) (c .before .before .before .before .before .before .args .count) (c .before .before .before .before .loop .inv .1) (omega arith) (c .before .before .before .before .before .before .pre .2))
+put-line-requires c κs =
+    let h = c .before .before .before .before in
+    let s = c .before .before .before .before .before .before in
+    let k = h .loop .k in
+    let number = c .before .number-after in (
+      low-said (number .result) (s .args .number + (k + 1)) (number .ensures),
+      simp (length-take, length-drop) (omega (arith, s .pre .0)),
+      fits-take (k * 8 + 8 - k * 8) (drop (k * 8) (now (s .args .rows))) (omega arith) (s .pre .1 k (omega arith)),
+      listed-room (s .args .number) (now (s .args .rows)) (now (s .args .text)) (h .loop .text) (h .loop .at) k (s .args .count) (h .loop .inv .1) (omega arith) (s .pre .2),
+    )
 
 add-k : tie.Need-add-k Inv-loop μ-loop
 add-k c = omega (arith, c .before .before .before .before .before .before .before .before .before .pre .0)
@@ -54,13 +63,28 @@ loop-less : tie.Need-loop-less Inv-loop μ-loop
 loop-less c = omega arith
 
 loop-again : tie.Need-loop-again Inv-loop μ-loop
-loop-again c = (omega arith, listed-next (c .before .before .before .before .before .before .before .before .before .args .number) (now (c .before .before .before .before .before .before .before .before .before .args .rows)) (now (c .before .before .before .before .before .before .before .before .before .args .text)) (c .before .before .before .before .before .before .before .loop .text) (c .before .before .before .before .before .before .before .loop .at) (c .before .before .before .before .before .before .before .loop .k) (c .before .before .before .before .before .before .before .before .before .args .count) (c .before .before .before .before .before .before .before .loop .inv .1) (omega arith) (c .before .before .before .before .before .before .before .before .before .pre .2) (c .before .before .before .before .number-after .result) (c .before .before .put-line .last .0) (c .before .before .put-line .result) (c .before .before .before .before .number-after .ensures) (omega arith) (c .before .before .put-line .ensures .0) (c .before .before .put-line .ensures .1 .0) (c .before .before .put-line .ensures .1 .1))
+loop-again c =
+    let h = c .before .before .before .before .before .before .before in
+    let s = c .before .before .before .before .before .before .before .before .before in
+    let number = c .before .before .before .before .number-after in
+    let put = c .before .before .put-line in (
+      omega arith,
+      listed-next (s .args .number) (now (s .args .rows)) (now (s .args .text)) (h .loop .text) (h .loop .at) (h .loop .k) (s .args .count) (h .loop .inv .1) (omega arith) (s .pre .2)
+          (number .result) (put .last .0) (put .result) (number .ensures) (omega arith) (put .ensures .0) (put .ensures .1 .0) (put .ensures .1 .1),
+    )
 
 same-length : tie.Need-same-length Inv-loop μ-loop
 same-length c = c .before .loop .inv .1 .same
 
 returns : tie.Need-returns Inv-loop μ-loop
-returns c = let e : c .before .loop .k ≡ c .before .before .before .args .count = omega arith in (c .before .loop .inv .1 .place ∙ ap (λ (j : ℕ). length (linesOf (c .before .before .before .args .number) j (now (c .before .before .before .args .rows)))) e, c .before .loop .inv .1 .text-is ∙ ap (λ (j : ℕ). put 0 (linesOf (c .before .before .before .args .number) j (now (c .before .before .before .args .rows))) (now (c .before .before .before .args .text))) e)
+returns c =
+    let h = c .before in
+    let s = c .before .before .before in
+    let rows = now (s .args .rows) in
+    let e : h .loop .k ≡ s .args .count = omega arith in (
+      h .loop .inv .1 .place ∙ ap (λ (j : ℕ). length (linesOf (s .args .number) j rows)) e,
+      h .loop .inv .1 .text-is ∙ ap (λ (j : ℕ). put 0 (linesOf (s .args .number) j rows) (now (s .args .text))) e,
+    )
 
 pub put-lines-spec : {M : Type 1} → statement M
 put-lines-spec =

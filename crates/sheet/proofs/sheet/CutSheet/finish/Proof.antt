@@ -8,7 +8,7 @@ use Rattle.sheet.proofs.sheet.CutSheet.finish.Statement.{statement}
 use Rattle.sheet.proofs.sheet.CutSheet.finish.Tie as tie
 
 returns : tie.Need-returns
-returns c = finish-tight (c .before .before .args .self) (now (c .before .before .args .text)) (omega arith)
+returns c = let s = c .before .before in finish-tight (s .args .self) (now (s .args .text)) (omega arith)
 
 discarded-bytes-requires : tie.Need-discarded-bytes-requires
 discarded-bytes-requires c κs = search needs
@@ -23,7 +23,12 @@ same-length : tie.Need-same-length
 same-length c = search needs
 
 returns-2 : tie.Need-returns-2
-returns-2 c = finish-wrote (c .before .before .before .before .before .before .before .before .before .args .self) (now (c .before .before .before .before .before .before .before .before .before .args .text)) (c .before .before .put-end-line .last .0) (c .before .before .put-end-line .result) (c .before .before .before .before .discarded-bytes .result) (c .before .before .before .pending-bytes .result) (omega arith) (c .before .before .before .before .discarded-bytes .ensures) (c .before .before .before .pending-bytes .ensures) (c .before .before .put-end-line .ensures .0) (c .before .before .put-end-line .ensures .1)
+returns-2 c =
+    let s = c .before .before .before .before .before .before .before .before .before in
+    let discarded = c .before .before .before .before .discarded-bytes in
+    let pending = c .before .before .before .pending-bytes in
+    let put = c .before .before .put-end-line in
+    finish-wrote (s .args .self) (now (s .args .text)) (put .last .0) (put .result) (discarded .result) (pending .result) (omega arith) (discarded .ensures) (pending .ensures) (put .ensures .0) (put .ensures .1)
 
 pub finish-spec : {M : Type 1} → statement M
 finish-spec =

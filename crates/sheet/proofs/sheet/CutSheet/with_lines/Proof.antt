@@ -20,7 +20,15 @@ same-length : tie.Need-same-length
 same-length c = search needs
 
 returns : tie.Need-returns
-returns c = (ap written (c .before .before .before .put-lines .ensures .0), (ap (λ (k : ℕ). record { splitter = c .before .before .before .before .before .before .args .splitter; number = k; begun = true }) (c .number-after .ensures), c .before .before .before .put-lines .ensures .1 ∙ put-front (linesOf (c .before .before .before .before .before .before .args .self .number) (c .before .before .before .before .before .before .args .count) (now (c .before .before .before .before .before .before .args .rows))) (now (c .before .before .before .before .before .before .args .text))))
+returns c =
+    let s = c .before .before .before .before .before .before in
+    let put = c .before .before .before .put-lines in (
+      ap written (put .ensures .0),
+      (
+        ap (λ (k : ℕ). record { splitter = s .args .splitter; number = k; begun = true }) (c .number-after .ensures),
+        put .ensures .1 ∙ put-front (linesOf (s .args .self .number) (s .args .count) (now (s .args .rows))) (now (s .args .text)),
+      ),
+    )
 
 pub with-lines-spec : {M : Type 1} → statement M
 with-lines-spec = tie.close (tie.spec put-lines-requires number-after-requires same-length returns)
