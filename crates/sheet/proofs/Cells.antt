@@ -6,7 +6,6 @@ use mir.Facts.{toZ-ofZ}
 use mir.Syntax.{w64}
 use mir.Val.{SFits, toZ, ofZ}
 use Rattle.sheet.specs.Layout.{rateCell, stampCell}
-use Rattle.sheet.specs.declared.column.Cell.{Cell}
 use Rattle.sheet.specs.declared.column.Cell.the-variants.{Number, Absent}
 
 -- a number is known by its bits

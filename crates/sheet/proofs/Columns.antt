@@ -3,14 +3,12 @@ use mathlib.Core.Path.{_≡_, sym, _∙_, ap}
 use mathlib.Core.List.{List, [], _∷_, _++_, append-assoc}
 use Prim.Native.Nat.{ℕ, zero, suc, _+_, _-_, _%_, _^_, _≤_, _<_}
 use native.Mathlib.Omega.{arith}
-use native.Mathlib.Nat.{mod-mod, mod-add-mod}
 use lib.IntN.{ℤ, pos, negsuc}
 use lib.ListN.{length, take, getD, replicate, length-append, length-replicate}
 use lib.Seq.{getD-take}
 use lib.Signed.{mag}
 use Rattle.sheet.specs.Layout.{space, minus, lineFeed, decimal, signed, cellText, right, lowDigits, rateCell, stampCell, line, endLine}
 use Rattle.sheet.specs.Step.{lineLength, endMost}
-use Rattle.sheet.specs.declared.column.Cell.{Cell}
 use Rattle.sheet.specs.declared.column.Cell.the-variants.{Number}
 use Rattle.sheet.specs.Parts.{col, frontOf, backOf, Below, RowFits}
 use Rattle.sheet.proofs.Digits.{decimal-most}
@@ -30,9 +28,6 @@ pub right-most : (w k : ℕ) (text : List ℕ) → w ≤ k → length text ≤ k
 unfolding right
 right-most w k text h i =
     omega (arith, length-append (replicate (w - length text) space) text, length-replicate (w - length text) space)
-
-pub col-length : (w : ℕ) (c : Cell) (s : ℕ) → length (cellText c) ≤ w → length (col w c s) ≡ w + 1
-col-length w c s h = length-append (right w (cellText c)) (s ∷ []) ∙ ap (λ (k : ℕ). k + 1) (right-length w (cellText c) h)
 
 -- ---- what fits
 
@@ -118,20 +113,6 @@ pub line-low : (n m : ℕ) (row : List ℤ) → lowDigits n ≡ lowDigits m → 
 unfolding line
 line-low n m row e = rw e
 
--- the low digits of the low digits
-pub low-again : (n : ℕ) → lowDigits (lowDigits n) ≡ lowDigits n
-unfolding lowDigits
-low-again n = mod-mod n (10 ^ 8)
-
--- of a sum it is enough to know those of a part
--- a number that is low digits already
-pub low-said : (m n : ℕ) → m ≡ lowDigits n → m ≡ lowDigits m
-low-said m n e = e ∙ sym (ap lowDigits e ∙ low-again n)
-
-pub low-add : (n k : ℕ) → lowDigits (lowDigits n + k) ≡ lowDigits (n + k)
-unfolding lowDigits
-low-add n k = mod-add-mod n (10 ^ 8) k
-
 -- ---- the last line
 
 -- column by column
@@ -159,22 +140,11 @@ end-length d p h i =
 
 -- ---- the parts of a line that the code writes one after the other
 
-abbrev behindNumber : List ℤ → List ℕ
-behindNumber row =
-    col 5 (Number (getD row 0 (pos 0))) space
-    ++ (col 2 (Number (getD row 1 (pos 0))) space
-    ++ (col 5 (Number (getD row 2 (pos 0))) space
-    ++ (col 6 (Number (getD row 3 (pos 0))) space
-    ++ (col 2 (Number (getD row 4 (pos 0))) space
-    ++ (col 7 (rateCell (getD row 5 (pos 0))) space
-    ++ col 20 (stampCell (getD row 6 (pos 0)) (getD row 7 (pos 0))) lineFeed)))))
-
-pub line-parts : (n : ℕ) (row : List ℤ) → n ≡ lowDigits n → line n row ≡ frontOf n row ++ backOf row
+pub line-parts : (n : ℕ) (row : List ℤ) → line n row ≡ frontOf n row ++ backOf row
 unfolding frontOf backOf
-line-parts n row e =
+line-parts n row =
     line-columns n row
-    ∙ ap (λ (k : ℕ). col 8 (Number (pos k)) space ++ behindNumber row) (sym e)
-    ∙ sym (regroup (col 8 (Number (pos n)) space) (col 5 (Number (getD row 0 (pos 0))) space) (col 2 (Number (getD row 1 (pos 0))) space) (col 5 (Number (getD row 2 (pos 0))) space) (backOf row))
+    ∙ sym (regroup (col 8 (Number (pos (lowDigits n))) space) (col 5 (Number (getD row 0 (pos 0))) space) (col 2 (Number (getD row 1 (pos 0))) space) (col 5 (Number (getD row 2 (pos 0))) space) (backOf row))
   where
     regroup : (a b c d l : List ℕ) → (a ++ (b ++ (c ++ d))) ++ l ≡ a ++ (b ++ (c ++ (d ++ l)))
     regroup a b c d l = append-assoc a (b ++ (c ++ d)) l ∙ ap (λ (k : List ℕ). a ++ k) (append-assoc b (c ++ d) l ∙ ap (λ (k : List ℕ). b ++ k) (append-assoc c d l))

@@ -35,7 +35,7 @@ use Rattle.sheet.specs.Layout.{line, lowDigits}
 use Rattle.sheet.specs.Sheet.{linesOf, payloadSize}
 use Rattle.sheet.specs.Step.{lineLength, tightText}
 use Rattle.sheet.proofs.Columns.{line-length, line-take, line-low}
-use Rattle.sheet.specs.Parts.{RowFits, RowsFit}
+use Rattle.sheet.specs.Parts.{RowsFit}
 
 -- ---- parts of a list
 

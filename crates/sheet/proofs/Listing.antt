@@ -4,28 +4,26 @@ use mathlib.Core.List.{List, [], _∷_, _++_, append-assoc}
 use Prim.Native.Nat.{ℕ, suc, _+_, _-_, _*_, _≤_, _<_}
 use native.Mathlib.Numerals.{add-one}
 use native.Mathlib.Omega.{arith}
-use lib.IntN.{ℤ, pos}
+use lib.IntN.{ℤ}
 use lib.ListN.{length, take, drop, set, length-append}
 use Rattle.splitter.specs.Push.{rowWidth}
-use Rattle.sheet.specs.Layout.{space, lineFeed, decimal, right, lowDigits, line, endLine}
+use Rattle.sheet.specs.Layout.{space, lineFeed, decimal, right, line, endLine}
 use Rattle.sheet.specs.Sheet.{linesOf}
 use Rattle.sheet.specs.Step.{put, lineLength}
-use Rattle.sheet.proofs.Columns.{line-take, line-low, low-again, end-columns}
+use Rattle.sheet.proofs.Columns.{line-take, end-columns}
 use Rattle.sheet.proofs.Lines.{lines-next}
-use Rattle.sheet.proofs.Writing.{put-none, put-then, put-one, put-next, put-length}
+use Rattle.sheet.proofs.Writing.{put-none, put-then, put-one, put-next}
 
 -- ---- the lines of the first k rows
 
--- the line of a row that is lent as a part of the rows, with its number's low digits
-pub line-here : (n k m : ℕ) (rows : List ℤ) → m ≡ lowDigits (n + (k + 1))
+-- the line of a row that is lent as a part of the rows
+pub line-here : (n k m : ℕ) (rows : List ℤ) → m ≡ n + (k + 1)
     → line m (take (k * 8 + 8 - k * 8) (drop (k * 8) rows)) ≡ line (n + suc k) (drop (k * rowWidth) rows)
 line-here n k m rows e =
     let w : k * 8 + 8 - k * 8 ≡ 8 = omega arith in
-    let l : lowDigits m ≡ lowDigits (n + (k + 1)) = ap lowDigits e ∙ low-again (n + (k + 1)) in
-    let s : n + (k + 1) ≡ n + suc k = omega arith in
+    let s : m ≡ n + suc k = omega arith in
     ap (λ (j : ℕ). line m (take j (drop (k * 8) rows))) w
     ∙ line-take m (drop (k * 8) rows)
-    ∙ line-low m (n + (k + 1)) (drop (k * 8) rows) l
     ∙ ap (λ (j : ℕ). line j (drop (k * 8) rows)) s
 
 -- the lines of the first k rows are written
@@ -43,7 +41,7 @@ module _ (n : ℕ) (rows : List ℤ) (old text : List ℕ) (at k count : ℕ) (l
   listed-room = omega (arith, l .paced, l .same)
 
   -- one line more
-  pub listed-next : (m : ℕ) (after : List ℕ) (next : ℕ) → m ≡ lowDigits (n + (k + 1)) → length after ≡ length text
+  pub listed-next : (m : ℕ) (after : List ℕ) (next : ℕ) → m ≡ n + (k + 1) → length after ≡ length text
       → length (line m (take (k * 8 + 8 - k * 8) (drop (k * 8) rows))) ≡ lineLength
       → next ≡ at + length (line m (take (k * 8 + 8 - k * 8) (drop (k * 8) rows)))
       → after ≡ put at (line m (take (k * 8 + 8 - k * 8) (drop (k * 8) rows))) text → Listed n rows old after next (k + 1)

@@ -17,7 +17,6 @@ use Rattle.splitter.specs.declared.answer.SplitterRefusal.{SplitterRefusal}
 use Rattle.splitter.specs.declared.state.AudioFrameSplitter.{AudioFrameSplitter}
 use Rattle.sheet.specs.Sheet.{firstLine}
 use Rattle.sheet.specs.Step.{newSheetOf, newSheetIn}
-use Rattle.sheet.specs.declared.input.FirstLine.{FirstLine}
 use Rattle.sheet.specs.declared.input.FirstLine.the-variants.{Code, Malformed}
 use Rattle.sheet.specs.declared.sheet.NewSheet.{NewSheet}
 

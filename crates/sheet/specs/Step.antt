@@ -1,8 +1,7 @@
 -- THE STEPS by which a program makes a sheet: one payload's lines, and the last line. Each writes to the front of a lent text.
-use mathlib.Core.Path.{_≡_}
 use mathlib.Core.Bool.{Bool, true, false}
-use mathlib.Core.List.{List, [], _∷_, _++_}
-use Prim.Native.Nat.{ℕ, _+_, _*_, _/_, _≤_}
+use mathlib.Core.List.{List, _++_}
+use Prim.Native.Nat.{ℕ, _+_, _/_, _≤_}
 use lib.Dec.{ltb}
 use lib.IntN.{ℤ}
 use lib.ListN.{length, take, drop}
@@ -10,7 +9,7 @@ use Rattle.heads.specs.Syntax.{syntaxOf}
 use Rattle.heads.specs.declared.syntax.CodedSyntax.{CodedSyntax}
 use Rattle.heads.specs.declared.syntax.CodedSyntax.the-variants.{Known, Refused as NoSyntax}
 use Rattle.splitter.specs.Answer.{Answer, done, refusalNumber}
-use Rattle.splitter.specs.Push.{Event, Outcome, event, over, push, new, rowWidth}
+use Rattle.splitter.specs.Push.{Outcome, event, over, push, new, rowWidth}
 use Rattle.splitter.specs.declared.answer.SplitterRefusal.the-variants.{SyntaxCode}
 use Rattle.splitter.specs.declared.state.AudioFrameSplitter.{AudioFrameSplitter}
 use Rattle.sheet.specs.Layout.{lowDigits}

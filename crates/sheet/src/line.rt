@@ -9,7 +9,7 @@ ghost use Rattle.splitter.specs.Push.{rowWidth};
 ghost use Rattle.sheet.specs.Layout.{line, endLine, lowDigits, rateCell, stampCell};
 ghost use Rattle.sheet.specs.Sheet.{linesOf};
 ghost use Rattle.sheet.specs.Step.{put, Room, lineLength};
-ghost use Rattle.sheet.specs.Parts.{frontOf, backOf, backLength, RowFits, RowsFit};
+ghost use Rattle.sheet.specs.Parts.{frontOf, backOf, threeOf, stampSize, sizeOf, RowsFit};
 
 // How many numbers a row has.
 pub const ROW_LEN: usize = 8;
@@ -34,13 +34,19 @@ fn stamp_cell(present: i64, stamp: i64) -> Cell
     Cell::Absent
 }
 
-// The first four columns: number, length, kind, samples.
-fn put_front(text: &mut [u8], at: usize, number: u32, row: &[i64]) -> usize
+// The first four columns: number (its low eight digits), length, kind, samples.
+fn put_front(text: &mut [u8], at: usize, number: u64, row: &[i64]) -> usize
     requires { ⌜ (rowWidth ≤ length (now row)) × Room at (length (frontOf number (now row))) (now text) ⌝ }
     ensures { λ r. ⌜ r ≡ at + length (frontOf number (now (row .entry))) ⌝ }
     ensures { λ _. ⌜ now (text .exit) ≡ put at (frontOf number (now (row .entry))) (now (text .entry)) ⌝ }
 {
-    let mut end = put_cell(text, at, 8, Cell::Number(number as i64), b' ');
+    let mut end = put_cell(
+        text,
+        at,
+        8,
+        Cell::Number((number % 100_000_000) as i64),
+        b' ',
+    );
     end = put_cell(text, end, 5, Cell::Number(row[0]), b' ');
     end = put_cell(text, end, 2, Cell::Number(row[1]), b' ');
     put_cell(text, end, 5, Cell::Number(row[2]), b' ')
@@ -48,8 +54,8 @@ fn put_front(text: &mut [u8], at: usize, number: u32, row: &[i64]) -> usize
 
 // The last four columns: rate, channels, bit rate, stamp.
 fn put_back(text: &mut [u8], at: usize, row: &[i64]) -> usize
-    requires { ⌜ (rowWidth ≤ length (now row)) × RowFits (now row) × Room at backLength (now text) ⌝ }
-    ensures { λ _. ⌜ length (backOf (now (row .entry))) ≡ backLength ⌝ }
+    requires { ⌜ (rowWidth ≤ length (now row)) × Room at (length (threeOf (now row)) + stampSize) (now text) ⌝ }
+    ensures { λ _. ⌜ length (backOf (now (row .entry))) ≡ length (threeOf (now (row .entry))) + stampSize ⌝ }
     ensures { λ r. ⌜ r ≡ at + length (backOf (now (row .entry))) ⌝ }
     ensures { λ _. ⌜ now (text .exit) ≡ put at (backOf (now (row .entry))) (now (text .entry)) ⌝ }
 {
@@ -59,11 +65,10 @@ fn put_back(text: &mut [u8], at: usize, row: &[i64]) -> usize
     put_cell(text, end, 20, stamp_cell(row[6], row[7]), b'\n')
 }
 
-// Writes the line of a frame from a place of the text on, by its row, and answers the place behind it. Of the number, the low eight digits
-// are given.
-pub fn put_line(text: &mut [u8], at: usize, number: u32, row: &[i64]) -> usize
-    requires { ⌜ (number ≡ lowDigits number) × (rowWidth ≤ length (now row)) × RowFits (now row) × Room at lineLength (now text) ⌝ }
-    ensures { λ _. ⌜ length (line number (now (row .entry))) ≡ lineLength ⌝ }
+// Writes the line of a frame from a place of the text on, by its row, and answers the place behind it.
+pub fn put_line(text: &mut [u8], at: usize, number: u64, row: &[i64]) -> usize
+    requires { ⌜ (rowWidth ≤ length (now row)) × Room at (sizeOf number (now row)) (now text) ⌝ }
+    ensures { λ _. ⌜ length (line number (now (row .entry))) ≡ sizeOf number (now (row .entry)) ⌝ }
     ensures { λ r. ⌜ r ≡ at + length (line number (now (row .entry))) ⌝ }
     ensures { λ _. ⌜ now (text .exit) ≡ put at (line number (now (row .entry))) (now (text .entry)) ⌝ }
 {
@@ -88,12 +93,8 @@ pub fn put_lines(text: &mut [u8], number: u32, rows: &[i64], count: usize) -> us
     let mut at = 0;
     for k in 0..count {
         let from = k * ROW_LEN;
-        at = put_line(
-            text,
-            at,
-            number_after(number, k + 1),
-            &rows[from..from + ROW_LEN],
-        );
+        let n = number as u64 + (k as u64 + 1);
+        at = put_line(text, at, n, &rows[from..from + ROW_LEN]);
     }
     at
 }

@@ -9,7 +9,7 @@ use mir.Syntax.{w64}
 use mir.Val.{toZ, ofZ}
 use denote.Ref.{now}
 use Rattle.sheet.specs.Layout.{signed, right, rateCell, stampCell}
-use Rattle.sheet.proofs.Halves.{element, back-size, back-length, back-three, cell-as, back-put}
+use Rattle.sheet.proofs.Halves.{element, back-size, three-size, back-length, cell-as, back-put}
 use borrow.Author.Needs.{needs}
 use Rattle.sheet.proofs.line.put_back.Statement.{statement}
 use Rattle.sheet.proofs.line.put_back.Tie as tie
@@ -25,7 +25,7 @@ shared-slice-copy-out-rate-cell c = search needs
 put-cell-requires : tie.Need-put-cell-requires
 put-cell-requires c κs =
     let s = c .before .before .before in
-    omega (arith, back-three (now (s .args .row)) (s .pre .1), s .pre .2, wide s 6 3 (c .rate-cell-arg .given))
+    omega (arith, three-size (now (s .args .row)), s .pre .1, wide s 6 3 (c .rate-cell-arg .given))
 
 shared-slice-copy-out-rate-cell-2 : tie.Need-shared-slice-copy-out-rate-cell-2
 shared-slice-copy-out-rate-cell-2 c = search needs
@@ -33,7 +33,7 @@ shared-slice-copy-out-rate-cell-2 c = search needs
 put-cell-requires-2 : tie.Need-put-cell-requires-2
 put-cell-requires-2 c κs =
     let s = c .before .before .before .before .before .before .before .before in
-    omega (arith, back-three (now (s .args .row)) (s .pre .1), s .pre .2, wide s 6 3 (c .before .before .before .before .before .rate-cell-arg .given), wide s 2 4 (c .rate-cell-arg2 .given))
+    omega (arith, three-size (now (s .args .row)), s .pre .1, wide s 6 3 (c .before .before .before .before .before .rate-cell-arg .given), wide s 2 4 (c .rate-cell-arg2 .given))
 
 shared-slice-copy-out-rate-cell-3 : tie.Need-shared-slice-copy-out-rate-cell-3
 shared-slice-copy-out-rate-cell-3 c = search needs
@@ -47,8 +47,8 @@ put-cell-requires-3 c κs =
     let row = now (s .args .row) in
     omega (
       arith,
-      back-three row (s .pre .1),
-      s .pre .2,
+      three-size row,
+      s .pre .1,
       wide s 6 3 (c .before .before .before .before .before .before .before .before .before .before .before .rate-cell-arg .given),
       wide s 2 4 (c .before .before .before .before .before .before .rate-cell-arg2 .given),
       cell-as 7 (c .rate-cell .result) (rateCell (getD row 5 (pos 0))) (c .rate-cell .ensures ∙ ap rateCell (element (getD row 5 (pos 0)) (c .before .rate-cell-arg3 .given))),
@@ -70,8 +70,8 @@ put-cell-requires-4 c κs =
     omega (
       arith,
       back-size row,
-      back-length row (s .pre .1) (c .before .stamp-cell-arg2 .given),
-      s .pre .2,
+      back-length row (c .before .stamp-cell-arg2 .given),
+      s .pre .1,
       wide s 6 3 (c .before .before .before .before .before .before .before .before .before .before .before .before .before .before .before .before .before .before .rate-cell-arg .given),
       wide s 2 4 (c .before .before .before .before .before .before .before .before .before .before .before .before .before .rate-cell-arg2 .given),
       cell-as 7 (c .before .before .before .before .before .before .before .rate-cell .result) (rateCell (getD row 5 (pos 0))) (c .before .before .before .before .before .before .before .rate-cell .ensures ∙ ap rateCell (element (getD row 5 (pos 0)) (c .before .before .before .before .before .before .before .before .rate-cell-arg3 .given))),
@@ -85,14 +85,14 @@ returns : tie.Need-returns
 returns c =
     let s = c .before .before .before .before .before .before .before .before .before .before .before .before .before .before .before .before .before .before .before .before .before .before .before .before in
     let row = now (s .args .row) in
-    let size = back-length row (s .pre .1) (c .before .before .before .before .stamp-cell-arg2 .given) in
+    let size = back-length row (c .before .before .before .before .stamp-cell-arg2 .given) in
     let cell1 = c .before .before .before .before .before .before .before .before .before .before .before .before .before .before .before .before .before .before .before .before .put-cell in
     let cell2 = c .before .before .before .before .before .before .before .before .before .before .before .before .before .before .before .put-cell2 in
     let cell3 = c .before .before .before .before .before .before .before .before .before .put-cell3 in
     let cell4 = c .before .before .put-cell4 in (
       size,
       back-put (s .args .at) (now (s .args .text)) (cell1 .result) (cell2 .result) (cell3 .result) (cell4 .result) (cell1 .last .0) (cell2 .last .0) (cell3 .last .0) (cell4 .last .0) row
-          (toZ w64 (ofZ w64 (getD row 3 (pos 0)))) (toZ w64 (ofZ w64 (getD row 4 (pos 0)))) (c .before .before .before .before .before .before .before .before .before .before .rate-cell .result) (c .before .before .before .stamp-cell .result) (omega (arith, size, s .pre .2))
+          (toZ w64 (ofZ w64 (getD row 3 (pos 0)))) (toZ w64 (ofZ w64 (getD row 4 (pos 0)))) (c .before .before .before .before .before .before .before .before .before .before .rate-cell .result) (c .before .before .before .stamp-cell .result) (omega (arith, size, s .pre .1))
           (element (getD row 3 (pos 0)) (c .before .before .before .before .before .before .before .before .before .before .before .before .before .before .before .before .before .before .before .before .before .rate-cell-arg .given)) (element (getD row 4 (pos 0)) (c .before .before .before .before .before .before .before .before .before .before .before .before .before .before .before .before .rate-cell-arg2 .given))
           (c .before .before .before .before .before .before .before .before .before .before .rate-cell .ensures ∙ ap rateCell (element (getD row 5 (pos 0)) (c .before .before .before .before .before .before .before .before .before .before .before .rate-cell-arg3 .given)))
           (c .before .before .before .stamp-cell .ensures ∙ ap₂ stampCell (element (getD row 6 (pos 0)) (c .before .before .before .before .before .stamp-cell-arg .given)) (element (getD row 7 (pos 0)) (c .before .before .before .before .stamp-cell-arg2 .given)))

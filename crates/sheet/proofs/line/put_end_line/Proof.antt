@@ -6,7 +6,6 @@ use lib.ListN.{length, set, length-set}
 use denote.Ref.{now}
 use Rattle.sheet.specs.Layout.{endLine, decimal, right}
 use Rattle.sheet.proofs.Listing.{end-size, end-put}
-use borrow.Author.Needs.{needs}
 use Rattle.sheet.proofs.line.put_end_line.Statement.{statement}
 use Rattle.sheet.proofs.line.put_end_line.Tie as tie
 

@@ -1,5 +1,4 @@
 -- What is written stands before `end`; with the digits of the rest before it, it is the number.
-use mathlib.Core.Path.{_≡_}
 use native.Mathlib.Omega.{arith}
 use lib.ListN.{length-set}
 use denote.Ref.{now}
