@@ -14,7 +14,7 @@ use Rattle.sheet.specs.Layout.{decimal, right, lowDigits, line, endLine}
 use Rattle.sheet.specs.Sheet.{payloadsOf, sheetOf, firstLine, printed}
 
 -- a text's characters as bytes
-abbrev ascii : String → List ℕ
+abbrev pub ascii : String → List ℕ
 ascii String.[] = []
 ascii (String._∷_ c s) = code c ∷ ascii s
 

@@ -17,6 +17,8 @@ pub mod Stepping
 pub mod Opening
 -- the steps over a stream's payloads give its sheet
 pub mod Sheets
+-- the sheet of a stream of whole frames
+pub mod Whole
 -- document 01's example, computed
 pub mod Example
 -- a line is read back in one way only

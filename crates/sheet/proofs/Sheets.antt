@@ -245,7 +245,7 @@ payloads-join a b =
 
 -- ---- from push to push
 
-abbrev standing : AudioFrameSplitter → List ℕ → ℕ → Bool → Standing
+abbrev pub standing : AudioFrameSplitter → List ℕ → ℕ → Bool → Standing
 standing s b n g = record { splitter = s; pend = b; lines = n; begun = g }
 
 full {ℓ} : {A : Type ℓ} (n : ℕ) (a : A) → n ≤ length (replicate n a)

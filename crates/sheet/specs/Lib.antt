@@ -4,3 +4,4 @@ pub mod Sheet
 pub mod Step
 pub mod Parts
 pub mod Run
+pub mod Whole
