@@ -23,8 +23,9 @@ const FIRST_LINE_LEN: usize = 2;
 
 const PAYLOAD_LEN: usize = 4096;
 
-// Sixteen payloads: a read for each would cost more time than the cutting.
-const BLOCK_LEN: usize = 65536;
+// Eight payloads: a read for each would cost more time than the cutting. Larger blocks are slower through a pipe, which holds 65536 bytes:
+// whoever fills it can go on only while this program cuts.
+const BLOCK_LEN: usize = 32768;
 
 // The shortest buffers that the splitter takes with up to 8190 bytes pending and a payload.
 const PENDING_LEN: usize = 8190;
