@@ -12,6 +12,8 @@ pub mod Unique
 -- where the bytes go
 pub mod Account
 pub mod Laws
+-- what turns a call down, and what stays then
+pub mod Refusing
 -- the stamps: the demand's rule frame by frame, the stamping rule, and one push
 pub mod Marks
 pub mod Rule
