@@ -12,8 +12,9 @@ pub mod Unique
 -- where the bytes go
 pub mod Account
 pub mod Laws
--- what turns a call down, and what stays then
+-- what turns a call down and what stays then, and which numbers can come where calls reach
 pub mod Refusing
+pub mod Reached
 -- the stamps: the demand's rule frame by frame, the stamping rule, and one push
 pub mod Marks
 pub mod Rule

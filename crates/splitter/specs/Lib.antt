@@ -4,6 +4,7 @@ pub mod Stamp
 pub mod Answer
 pub mod Push
 pub mod Flush
+pub mod Reached
 pub mod Steps
 pub mod Demand
 pub mod Cases
