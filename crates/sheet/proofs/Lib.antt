@@ -17,6 +17,8 @@ pub mod Stepping
 pub mod Opening
 -- the steps over a stream's payloads give its sheet
 pub mod Sheets
+-- which number can stop a sheet
+pub mod Stopping
 -- the sheet of a stream of whole frames
 pub mod Whole
 -- document 01's example, computed
