@@ -9,7 +9,7 @@ use native.Mathlib.Numerals.{add-one}
 use lib.Dec.{ltb}
 use lib.IntN.{ℤ, pos}
 use lib.ListN.{length, getD, take, drop, length-append}
-use lib.Seq.{drop-drop, take-take, getD-drop, length-take-le, take-nil}
+use lib.Seq.{drop-drop, take-take, getD-drop, take-nil}
 use lib.Signed.{mag}
 use borrow.Author.Tests.{ltb-false}
 use Rattle.heads.specs.Numbers.{kindNumber, bitRateNumber}
@@ -22,15 +22,16 @@ use Rattle.heads.specs.declared.info.Head.{Head}
 use Rattle.heads.specs.declared.info.Head.the-variants.{Read, Refused}
 use Rattle.heads.specs.declared.syntax.AudioSyntax.{AudioSyntax}
 use Rattle.heads.specs.declared.syntax.AudioSyntax.the-variants.{Ac3 as Ac3Syntax, MpegAudio, AacAdts as AdtsSyntax}
-use Rattle.heads.proofs.Promise.{within, need-most, length-most, whole-length}
-use Rattle.splitter.specs.Answer.{refused, done}
+use Rattle.heads.proofs.Promise.{within}
+use Rattle.splitter.specs.Answer.{done}
 use Rattle.splitter.specs.Cut.{Reader, Cut, lost, given, kept, short, falseSync, headed, place, walk}
 use Rattle.splitter.specs.Stamp.{Frame, stampCuts, voided, give, early}
 use Rattle.splitter.specs.Push.{Event, rowWidth, rowsOf, joined, clockOf, cutsBy, push}
 use Rattle.splitter.specs.declared.state.AudioFrameSplitter.{AudioFrameSplitter}
 use Rattle.splitter.specs.declared.timing.Clock.{Clock}
-use Rattle.splitter.proofs.Account.{bounds, stamp-count}
-use Rattle.splitter.proofs.Laws.{room, push-cases, rows-fit}
+use Rattle.splitter.proofs.Account.{stamp-count}
+use Rattle.splitter.proofs.Answers.{clash, rows-said}
+use Rattle.splitter.proofs.Laws.{room, push-cases, brought, many-in, rows-fit}
 use Rattle.sheet.specs.Layout.{line, lowDigits}
 use Rattle.sheet.specs.Sheet.{linesOf, payloadSize}
 use Rattle.sheet.specs.Step.{lineLength, tightText}
@@ -216,50 +217,33 @@ frame-rows-fit (f ∷ fs) rest h zero l =
     }
 frame-rows-fit (f ∷ fs) rest h (suc j) l = rw next-row (frame-rows-fit fs rest (h .1) j (omega arith))
 
-refused-done : (k : ℕ) (t : Bool) (r b : ℕ) → refused k ≡ done t r b → ⊥
-refused-done k t r b e = let z : _≡_ {A = ℕ} 0 1 = cc in omega arith
-
-said-rows : (t u : Bool) (r b p q : ℕ) → done t r b ≡ done u p q → r ≡ p
-said-rows t u r b p q e = cc
-
 -- seven bytes at least to a frame
 frames-most : (x : AudioSyntax) (s : AudioFrameSplitter) (e : Event)
     → length (stampCuts (s .pending) (clockOf s e) (cutsBy x s e) .frames) * 7 ≤ length (joined s e)
-frames-most x s e =
-    omega (
-      arith,
-      stamp-count (cutsBy x s e) (s .pending) (clockOf s e),
-      (bounds (needOf x) (headOf x) (omega (arith, need-most x)) (λ l i r h. whole-length x l i r h) (λ l i r. length-most x l i r)
-          (joined s e) 0) .0,
-    )
-
-joined-size : (s : AudioFrameSplitter) (e : Event) → s .pending ≤ length (e .pend) → length (joined s e) ≡ s .pending + length (e .payload)
-joined-size s e h =
-    length-append (take (s .pending) (e .pend)) (e .payload)
-    ∙ ap (λ (n : ℕ). n + length (e .payload)) (length-take-le (s .pending) (e .pend) h)
+frames-most x s e = omega (arith, stamp-count (cutsBy x s e) (s .pending) (clockOf s e), many-in x s e)
 
 module _ (s : AudioFrameSplitter) (e : Event) (t : Bool) (r b : ℕ) (answered : (push s e) .answer ≡ done t r b) where
   -- what a push says it wrote of rows fits the columns
   pub push-rows-fit : RowsFit r ((push s e) .rows)
   push-rows-fit =
       push-cases s e (λ o. o .answer ≡ done t r b → RowsFit r (o .rows))
-      (λ k a. absurd (refused-done (suc k) t r b a))
-      (λ x known q u a j l. absurd (omega (arith, said-rows false t 0 0 r b a)))
+      (λ k a. absurd (clash (suc k) t r b a))
+      (λ x known q u a j l. absurd (omega (arith, rows-said false t 0 0 r b a)))
       (λ x known q u a j l.
       frame-rows-fit (stampCuts (s .pending) (clockOf s e) (cutsBy x s e) .frames) _
       (stamp-all Fitting (cutsBy x s e) (s .pending) (clockOf s e) (walk-given-all (needOf x) (headOf x) Fitting (head-fits x) (joined s e) 0))
-      j (omega (arith, said-rows true t _ _ r b a)))
+      j (omega (arith, rows-said true t _ _ r b a)))
       answered
 
   -- of a payload's rows there are at most 1755
   pub payload-rows : length (e .payload) ≤ payloadSize → r ≤ 1755
   payload-rows h =
       push-cases s e (λ o. o .answer ≡ done t r b → r ≤ 1755)
-      (λ k a. absurd (refused-done (suc k) t r b a))
-      (λ x known q u a. omega (arith, said-rows false t 0 0 r b a))
+      (λ k a. absurd (clash (suc k) t r b a))
+      (λ x known q u a. omega (arith, rows-said false t 0 0 r b a))
       (λ x known q u a.
       let w = room s e q in
-      omega (arith, said-rows true t _ _ r b a, frames-most x s e, joined-size s e (omega (arith, w .pending-in, w .pend-room)), w .pending-in))
+      omega (arith, rows-said true t _ _ r b a, frames-most x s e, brought x s e (omega (arith, w .pending-in, w .pend-room)), w .pending-in))
       answered
 
   -- a text that has room for a line of each row that the rows have room for, has room for a line of each row written

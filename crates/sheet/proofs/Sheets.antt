@@ -10,7 +10,7 @@ use lib.Dec.{ltb}
 use lib.IntN.{ℤ, pos}
 use lib.ListN.{length, take, drop, replicate, length-append, length-drop, length-replicate, take-append-drop, length-take}
 use lib.Seq.{take-append-seam, take-at, take-append-le, drop-append-le}
-use borrow.Author.Tests.{ltb-false, le-ltb}
+use borrow.Author.Tests.{le-ltb}
 use Rattle.heads.specs.Syntax.{headOf, needOf, syntaxOf}
 use Rattle.heads.specs.declared.syntax.AudioSyntax.{AudioSyntax}
 use Rattle.heads.specs.declared.syntax.CodedSyntax.{CodedSyntax}
@@ -23,6 +23,8 @@ use Rattle.splitter.specs.Push.{Event, Outcome, event, firstOf, rowWidth, badSt
 use Rattle.splitter.specs.declared.state.AudioFrameSplitter.{AudioFrameSplitter}
 use Rattle.splitter.specs.declared.timing.Pts.{Pts}
 use Rattle.splitter.proofs.Account.{rows-size}
+use Rattle.splitter.proofs.Answers.{clash, rows-said}
+use Rattle.splitter.proofs.Clocks.{state-few}
 use Rattle.splitter.proofs.Laws.{push-cases, push-pend-length}
 use Rattle.sheet.specs.Layout.{lowDigits}
 use Rattle.sheet.specs.Run.{Call, Roomy, AllRoomy, stepOf, runOn, runSteps}
@@ -33,10 +35,6 @@ use Rattle.sheet.proofs.Lines.{lines-front, lines-low}
 
 -- ---- a push with room
 
-or-first : (a b : Bool) → (a || b) ≡ false → a ≡ false
-or-first true b e = e
-or-first false b e = refl
-
 first-same : (x : Bool) (k n m : ℕ) → (x ≡ false → n ≡ m) → firstOf x k n ≡ firstOf x k m
 first-same true k n m h = refl
 first-same false k n m h = h refl
@@ -44,10 +42,6 @@ first-same false k n m h = h refl
 or-false : (a : Bool) → (a || false) ≡ a
 or-false true = refl
 or-false false = refl
-
-good-pending : (s : AudioFrameSplitter) → badState s ≡ false → s .pending ≤ pendSize
-unfolding badState
-good-pending s e = ltb-false 8190 (s .pending) (or-first (ltb 8190 (s .pending)) _ e)
 
 -- number 12 comes for the pending buffer alone
 tight-pend : (m p b o r : ℕ) → m ≤ pendSize → p ≤ payloadSize → outSize ≤ o → rowsSize ≤ r → tightOf m p b o r ≡ ltb b pendSize
@@ -65,7 +59,7 @@ room-refusal s p t b o r hp ho hr =
     first-same (badState s) 8 _ _
     (λ e.
     ap (λ (x : Bool). firstOf (ltb 65535 p) 9 (firstOf (farPts t) 10 (firstOf (badCount s) 11 (firstOf x 12 0))))
-    (tight-pend (s .pending) p b o r (good-pending s e) hp ho hr))
+    (tight-pend (s .pending) p b o r (state-few s e) hp ho hr))
 
 -- the same answer, the same state, the same bytes pending, and the same rows so far as written
 pub record Alike (o o′ : Outcome) : Type 0 where
@@ -74,20 +68,14 @@ pub record Alike (o o′ : Outcome) : Type 0 where
   pub pend : take (o .state .pending) (o .pend) ≡ take (o .state .pending) (o′ .pend)
   pub rows : (t : Bool) (r b : ℕ) → o .answer ≡ done t r b → take (r * rowWidth) (o .rows) ≡ take (r * rowWidth) (o′ .rows)
 
-said-rows : (t u : Bool) (r b p q : ℕ) → done t r b ≡ done u p q → r ≡ p
-said-rows t u r b p q e = cc
-
-refused-done : (k : ℕ) (t : Bool) (r b : ℕ) → refused k ≡ done t r b → ⊥
-refused-done k t r b e = let z : _≡_ {A = ℕ} 0 1 = cc in omega arith
-
 -- buffers that have room: b, o, r and b′, o′, r′, where the bytes pending are the same
 module _ (s : AudioFrameSplitter) (p : List ℕ) (t : Pts) (b b′ o o′ : List ℕ) (r r′ : List ℤ)
     (front : take (s .pending) b ≡ take (s .pending) b′) where
   refused-alike : (k : ℕ) → Alike (stay (refused k) s (event p t b o r)) (stay (refused k) s (event p t b′ o′ r′))
-  refused-alike k = record { answer = refl; state = refl; pend = front; rows = λ u n m e. absurd (refused-done k u n m e) }
+  refused-alike k = record { answer = refl; state = refl; pend = front; rows = λ u n m e. absurd (clash k u n m e) }
 
   idle-alike : Alike (stay (done false 0 0) s (event p t b o r)) (stay (done false 0 0) s (event p t b′ o′ r′))
-  idle-alike = record { answer = refl; state = refl; pend = front; rows = λ u n m e. rw (← said-rows false u 0 0 n m e) }
+  idle-alike = record { answer = refl; state = refl; pend = front; rows = λ u n m e. rw (← rows-said false u 0 0 n m e) }
 
   taken-alike : (cs : List Cut) (sh : Sheet) → Alike (finish s (event p t b o r) cs sh) (finish s (event p t b′ o′ r′) cs sh)
   taken-alike cs sh =
@@ -96,7 +84,7 @@ module _ (s : AudioFrameSplitter) (p : List ℕ) (t : Pts) (b b′ o o′ : List
         state = refl;
         pend = take-append-seam (remainder cs) _ ∙ sym (take-append-seam (remainder cs) _);
         rows = λ u n m e.
-            let l : length (rowsOf (sh .frames)) ≡ n * rowWidth = omega (arith, rows-size (sh .frames), said-rows true u _ _ n m e) in
+            let l : length (rowsOf (sh .frames)) ≡ n * rowWidth = omega (arith, rows-size (sh .frames), rows-said true u _ _ n m e) in
             take-at (rowsOf (sh .frames)) _ (n * rowWidth) l ∙ sym (take-at (rowsOf (sh .frames)) _ (n * rowWidth) l);
       }
 

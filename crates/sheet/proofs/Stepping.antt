@@ -1,20 +1,20 @@
 -- The steps by their cases. Assumes nothing.
 use mathlib.Core.Path.{_≡_, refl, sym, _∙_, ap}
-use mathlib.Core.Bool.{Bool, true}
+use mathlib.Core.Bool.{Bool, true, false}
 use mathlib.Core.List.{List}
 use Prim.Native.Nat.{ℕ, _/_, _≤_, _<_}
 use native.Mathlib.Omega.{arith}
+use lib.Dec.{ltb}
 use lib.ListN.{length}
 use borrow.Author.Tests.{lt-ltb, le-ltb}
 use lib.IntN.{ℤ}
 use Rattle.splitter.specs.Answer.{Answer, done}
-use Rattle.splitter.specs.Stamp.{stampCuts}
-use Rattle.splitter.specs.Push.{Event, event, over, push, rowWidth, cutsBy, clockOf}
-use Rattle.splitter.proofs.Laws.{push-cases}
+use Rattle.splitter.specs.Push.{Outcome, event, over, rowWidth}
+use Rattle.splitter.proofs.Refusing.{push-refused}
 use Rattle.splitter.specs.declared.state.AudioFrameSplitter.{AudioFrameSplitter}
 use Rattle.sheet.specs.Layout.{endLine}
 use Rattle.sheet.specs.Sheet.{timeOf, linesOf, endOf}
-use Rattle.sheet.specs.Step.{Wrote, refused, written, put, Lent, Step, lineLength, sheetAfter, pushOf, step, endMost, finish}
+use Rattle.sheet.specs.Step.{Wrote, refused, written, put, Lent, Step, stay, lineLength, sheetAfter, stepBy, pushOf, stepIf, tightText, step, endMost, endIf, finish}
 use Rattle.sheet.specs.declared.sheet.CutSheet.{CutSheet}
 use Rattle.sheet.proofs.Writing.{put-front}
 
@@ -32,37 +32,53 @@ finish-wrote c text after n d p h ed ep en ea =
     rw (le-ltb (length text) endMost h)
     (ap written (en ∙ ap length same), ea ∙ put-front (endLine d p) text ∙ ap (λ (l : List ℕ). over l text) same)
 
+-- One that is refused writes nothing, and its number is 12.
+pub finish-stays : (c : CutSheet) (text : List ℕ) (k : ℕ) → (finish c text) .answer ≡ refused k → ((finish c text) .text ≡ text) × (k ≡ 12)
+unfolding finish
+finish-stays c text k = go (ltb (length text) endMost)
+  where
+    go : (t : Bool) → (endIf t c text) .answer ≡ refused k → ((endIf t c text) .text ≡ text) × (k ≡ 12)
+    go true e = (refl, cc)
+    go false e = absurd (let z : _≡_ {A = ℕ} 0 1 = cc in omega arith)
+
 -- ---- one payload
 
 -- what a step gives, part by part
 abbrev pub Gives : Wrote → CutSheet → List ℕ → List ℕ → List ℤ → List ℕ → Step → Type 0
 Gives a c p o r t x = (a ≡ x .answer) × ((c ≡ x .state) × ((p ≡ x .pend) × ((o ≡ x .out) × ((r ≡ x .rows) × (t ≡ x .text)))))
 
--- a refused push changes nothing
-refused-stays : (s : AudioFrameSplitter) (e : Event) (k : ℕ) → (push s e) .answer ≡ Answer.refused k
-    → ((push s e) .pend ≡ e .pend) × ((push s e) .out ≡ e .out) × ((push s e) .rows ≡ e .rows)
-refused-stays s e k =
-    push-cases s e (λ o. o .answer ≡ Answer.refused k → (o .pend ≡ e .pend) × (o .out ≡ e .out) × (o .rows ≡ e .rows))
-    (λ j a. (refl, refl, refl))
-    (λ x known q u a. (refl, refl, refl))
-    (λ x known q u a. absurd (never (length (stampCuts (s .pending) (clockOf s e) (cutsBy x s e) .frames)) _ k a))
-  where
-    never : (r b k : ℕ) → done true r b ≡ Answer.refused k → ⊥
-    never r b k a = let z : _≡_ {A = ℕ} 0 1 = cc in omega arith
-
 module _ (c : CutSheet) (p : List ℕ) (b : Lent) where
+  -- A refused step hands back the state and every buffer as given, and its number is one of document 01's table.
+  pub step-stays : (k : ℕ) → (step c p b) .answer ≡ refused k → (step c p b ≡ stay k c b) × (7 ≤ k) × (k ≤ 12)
+  unfolding step
+  step-stays k = go (tightText (length (b .text)) (length (b .rows)))
+    where
+      said : (m : ℕ) → refused m ≡ refused k → m ≡ k
+      said m e = cc
+
+      by : (a : Answer) → (pushOf c p b) .answer ≡ a → (stepBy a c b (pushOf c p b)) .answer ≡ refused k
+          → (stepBy a c b (pushOf c p b) ≡ stay k c b) × (7 ≤ k) × (k ≤ 12)
+      by (Answer.refused m) q e =
+          let bounds = push-refused (c .splitter) (event p (timeOf (c .begun)) (b .pend) (b .out) (b .rows)) m q in
+          (ap (λ (n : ℕ). stay n c b) (said m e), omega (arith, said m e, bounds .1), omega (arith, said m e, bounds .2))
+      by (done t r n) q e = absurd (let z : _≡_ {A = ℕ} 0 1 = cc in omega arith)
+
+      go : (t : Bool) → (stepIf t c b (pushOf c p b)) .answer ≡ refused k → (stepIf t c b (pushOf c p b) ≡ stay k c b) × (7 ≤ k) × (k ≤ 12)
+      go true e = (ap (λ (n : ℕ). stay n c b) (said 12 e), omega (arith, said 12 e), omega (arith, said 12 e))
+      go false e = by ((pushOf c p b) .answer) refl e
+
   pub step-tight : length (b .text) / lineLength < length (b .rows) / rowWidth → Gives (refused 12) c (b .pend) (b .out) (b .rows) (b .text) (step c p b)
   unfolding step
   step-tight h = rw (lt-ltb (length (b .text) / lineLength) (length (b .rows) / rowWidth) h) (refl, (refl, (refl, (refl, (refl, refl)))))
 
   module _ (h : length (b .rows) / rowWidth ≤ length (b .text) / lineLength) (pend out : List ℕ) (rows : List ℤ)
       (ep : pend ≡ (pushOf c p b) .pend) (eo : out ≡ (pushOf c p b) .out) (er : rows ≡ (pushOf c p b) .rows) where
-    pub step-refused : (k : ℕ) → Answer.refused k ≡ (pushOf c p b) .answer → Gives (refused k) c pend out rows (b .text) (step c p b)
+    pub step-turned : (k : ℕ) → Answer.refused k ≡ (pushOf c p b) .answer → Gives (refused k) c pend out rows (b .text) (step c p b)
     unfolding step
-    step-refused k e =
-        let same = refused-stays (c .splitter) (event p (timeOf (c .begun)) (b .pend) (b .out) (b .rows)) k (sym e) in
+    step-turned k e =
+        let same = push-refused (c .splitter) (event p (timeOf (c .begun)) (b .pend) (b .out) (b .rows)) k (sym e) .0 in
         rw (le-ltb (length (b .text) / lineLength) (length (b .rows) / rowWidth) h, sym e)
-        (refl, (refl, (ep ∙ same .0, (eo ∙ same .1, (er ∙ same .2, refl)))))
+        (refl, (refl, (ep ∙ ap (λ (o : Outcome). o .pend) same, (eo ∙ ap (λ (o : Outcome). o .out) same, (er ∙ ap (λ (o : Outcome). o .rows) same, refl)))))
 
     pub step-wrote : (t : Bool) (r n : ℕ) → done t r n ≡ (pushOf c p b) .answer → (s : AudioFrameSplitter) → s ≡ (pushOf c p b) .state
         → (a : Wrote) (x : CutSheet) (text : List ℕ) → a ≡ written (length (linesOf (c .number) r rows)) → x ≡ sheetAfter c s r

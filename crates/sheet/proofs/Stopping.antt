@@ -1,14 +1,13 @@
 -- WHAT CAN STOP A SHEET: of the pushes that the sheet of a stream makes, number 11 alone can turn one down, and none is turned down in a stream
 -- of at most 30,000,000,000 bytes. Assumes nothing.
 use mathlib.Core.Path.{_≡_, refl, sym, _∙_, ap}
-use mathlib.Core.Bool.{Bool, true, false, _||_}
+use mathlib.Core.Bool.{Bool, true, false}
 use mathlib.Core.List.{List, [], _∷_, _++_, append-assoc}
 use Prim.Native.Nat.{ℕ, suc, _+_, _*_, _/_, _≤_, _^_}
 use native.Mathlib.Omega.{arith}
-use lib.Dec.{ltb}
 use lib.IntN.{pos}
 use lib.ListN.{length, replicate, length-append, length-drop, length-replicate}
-use borrow.Author.Tests.{ltb-false, le-ltb}
+use borrow.Author.Tests.{le-ltb}
 use Rattle.heads.specs.Syntax.{syntaxOf}
 use Rattle.heads.specs.declared.syntax.AudioSyntax.{AudioSyntax}
 use Rattle.heads.specs.declared.syntax.CodedSyntax.the-variants.{Known}
@@ -20,6 +19,8 @@ use Rattle.splitter.specs.Stamp.{far, farPts, manySince, manyFrames, forgotten}
 use Rattle.splitter.specs.declared.state.AudioFrameSplitter.{AudioFrameSplitter}
 use Rattle.splitter.specs.declared.timing.Anchored.{Anchored}
 use Rattle.splitter.specs.declared.timing.Anchored.the-variants.{To, Free}
+use Rattle.splitter.proofs.Answers.{true-false}
+use Rattle.splitter.proofs.Clocks.{state-few}
 use Rattle.splitter.proofs.Laws.{push-pend-length}
 use Rattle.splitter.proofs.Reached.{sinceOf, called-sound, called-syntax, push-growth, new-sound}
 use Rattle.splitter.proofs.Refusing.{push-refused, push-ground}
@@ -66,15 +67,7 @@ unfolding farPts far
 time-near true = refl
 time-near false = refl
 
-or-first : (a b : Bool) → (a || b) ≡ false → a ≡ false
-or-first true b e = e
-or-first false b e = refl
-
 module _ (x : AudioSyntax) (d : Standing) (fit : Fit x d) where
-  pending-few : d .splitter .pending ≤ pendSize
-  unfolding badState
-  pending-few = ltb-false 8190 (d .splitter .pending) (or-first (ltb 8190 (d .splitter .pending)) _ (fit .sound))
-
   fit-moved : (p : List ℕ) (r : ℕ) → Fit x (moved d (pushed d p) r)
   fit-moved p r =
       record {
@@ -89,8 +82,8 @@ module _ (x : AudioSyntax) (d : Standing) (fit : Fit x d) where
     tight-not =
         rw (
           le-ltb (length (d .pend)) 8190 (fit .long),
-          le-ltb (length (replicate {A = ℕ} outSize 0)) (d .splitter .pending + length p) (omega (arith, pending-few, length-replicate {A = ℕ} outSize 0)),
-          le-ltb (length (replicate rowsSize (pos 0))) (rowWidth * ((d .splitter .pending + length p) / 7)) (omega (arith, pending-few, length-replicate rowsSize (pos 0))),
+          le-ltb (length (replicate {A = ℕ} outSize 0)) (d .splitter .pending + length p) (omega (arith, state-few (d .splitter) (fit .sound), length-replicate {A = ℕ} outSize 0)),
+          le-ltb (length (replicate rowsSize (pos 0))) (rowWidth * ((d .splitter .pending + length p) / 7)) (omega (arith, state-few (d .splitter) (fit .sound), length-replicate rowsSize (pos 0))),
         )
 
     -- 11 is the only ground
@@ -143,9 +136,6 @@ light s h = rw (many-not (s .timing .anchor) (omega arith), le-ltb (2 ^ 62) (s .
 -- what the payloads still to come may add
 abbrev coming : List (List ℕ) → ℕ
 coming ps = length (join ps) + 7 * length ps
-
-true-false : true ≡ false → ⊥
-true-false e = let z : _≡_ {A = ℕ} 0 1 = cc in omega arith
 
 -- every payload is pushed, and no push is refused
 abbrev Onward : List (List ℕ) → List Outcome → Type 0

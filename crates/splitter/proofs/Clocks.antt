@@ -14,7 +14,7 @@ use lib.Signed.{mag}
 use borrow.Author.Tests.{ltb-false}
 use Rattle.heads.specs.declared.info.AudioFrameInfo.{AudioFrameInfo}
 use Rattle.splitter.specs.Stamp.{far, farPts, badAnchor, badTiming, manySince, manyFrames, geometryOf, guessOf, after, stampOwn, anchorOwn, anchorOld, give, keep, keepTail, voided, emptied}
-use Rattle.splitter.specs.Push.{firstOf, rowWidth, badState, badCount, tightOf, refusalOf}
+use Rattle.splitter.specs.Push.{rowWidth, badState, badCount, tightOf, refusalOf}
 use Rattle.splitter.specs.Steps.{Steady, Good, anchoredTo, interpolated, keptWith, tailTiming}
 use Rattle.splitter.specs.declared.timing.Pts.{Pts}
 use Rattle.splitter.specs.declared.timing.Pts.the-variants.{At, Absent}
@@ -25,16 +25,7 @@ use Rattle.splitter.specs.declared.timing.Clock.{Clock}
 use Rattle.splitter.specs.declared.timing.Geometry.{Geometry}
 use Rattle.splitter.specs.declared.timing.Stamped.{Stamped}
 use Rattle.splitter.specs.declared.state.AudioFrameSplitter.{AudioFrameSplitter}
-
--- ---- tests
-
-neither : (a b : Bool) → (a || b) ≡ false → (a ≡ false) × (b ≡ false)
-neither true b e = absurd (let z : _≡_ {A = ℕ} 0 1 = cc in omega arith)
-neither false b e = (refl, e)
-
-past : (b : Bool) (k r : ℕ) → firstOf b (suc k) r ≡ 0 → (b ≡ false) × (r ≡ 0)
-past true k r e = absurd (let no : ⊥ = omega arith in no)
-past false k r e = (refl, e)
+use Rattle.splitter.proofs.Answers.{neither, past}
 
 -- a time that is not far
 pub near-of : (z : ℤ) → far z ≡ false → mag z ≤ 2 ^ 62

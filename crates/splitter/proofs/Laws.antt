@@ -1,6 +1,6 @@
 -- The laws of push and flush for the three syntaxes: where the bytes go, what fits, and that no buffer changes its length. Assumes nothing.
 use mathlib.Core.Path.{_≡_, refl, sym, _∙_, ap}
-use mathlib.Core.Bool.{Bool, true, false, _||_}
+use mathlib.Core.Bool.{Bool, true, false}
 use mathlib.Core.List.{List, [], _∷_, _++_}
 use Prim.Native.Nat.{ℕ, zero, suc, _+_, _-_, _*_, _/_, _≤_, _<_}
 use native.Mathlib.Omega.{arith}
@@ -20,20 +20,13 @@ use Rattle.heads.proofs.Promise.{need-least, need-most, length-most, whole-leng
 use Rattle.splitter.specs.Cut.{Cut, unread, remainder, losses}
 use Rattle.splitter.specs.Stamp.{Sheet, farPts, stampCuts}
 use Rattle.splitter.specs.Answer.{refused, done}
-use Rattle.splitter.specs.Push.{Event, Outcome, firstOf, rowWidth, badState, badCount, tightOf, refusalOf, refusal, bytesOf, rowsOf, over, stay, clockOf, joined, cutsBy, admits, pushTaken, pushBy, push}
+use Rattle.splitter.specs.Push.{Event, Outcome, rowWidth, badState, badCount, tightOf, refusalOf, refusal, bytesOf, rowsOf, over, stay, clockOf, joined, cutsBy, admits, pushTaken, pushBy, push}
 use Rattle.splitter.specs.Flush.{flushTightOf, flushRefusalOf, flushRefusal, pendingBytes, drain, flushBy, flushIn, flush}
 use Rattle.splitter.specs.declared.state.AudioFrameSplitter.{AudioFrameSplitter}
+use Rattle.splitter.proofs.Answers.{neither, past, clash, idle-clash, rows-said, bytes-said}
 use Rattle.splitter.proofs.Account.{all-of, account, how-many, bounds, given-bytes, sizes, stamp-bytes, stamp-count, rows-size}
 
 -- ---- what a call that is not refused was handed
-
-past : (b : Bool) (k r : ℕ) → firstOf b (suc k) r ≡ 0 → (b ≡ false) × (r ≡ 0)
-past true k r e = absurd (let no : ⊥ = omega arith in no)
-past false k r e = (refl, e)
-
-neither : (a b : Bool) → (a || b) ≡ false → (a ≡ false) × (b ≡ false)
-neither true b e = absurd (let z : _≡_ {A = ℕ} 0 1 = cc in omega arith)
-neither false b e = (refl, e)
 
 -- what is known of a push that is not refused
 pub record Room (s : AudioFrameSplitter) (e : Event) : Type 0 where
@@ -101,7 +94,7 @@ module _ (x : AudioSyntax) (s : AudioFrameSplitter) (e : Event) where
   some-need : 0 < needOf x
   some-need = omega (arith, need-least x)
 
-  brought : s .pending ≤ length (e .pend) → length (joined s e) ≡ s .pending + length (e .payload)
+  pub brought : s .pending ≤ length (e .pend) → length (joined s e) ≡ s .pending + length (e .payload)
   brought h = length-append (take (s .pending) (e .pend)) (e .payload) ∙ ap (λ (n : ℕ). n + length (e .payload)) (length-take-le (s .pending) (e .pend) h)
 
   -- pending bytes and payload, in order, are the bytes of the cuts
@@ -113,7 +106,7 @@ module _ (x : AudioSyntax) (s : AudioFrameSplitter) (e : Event) where
   taken-pending = (bounds (needOf x) (headOf x) (omega (arith, need-most x)) (λ l i r h. whole-length x l i r h) (λ l i r. length-most x l i r) (joined s e) 0) .1
 
   -- seven bytes at least to a frame
-  many-in : how-many cuts * 7 ≤ length (joined s e)
+  pub many-in : how-many (cutsBy x s e) * 7 ≤ length (joined s e)
   many-in = omega (arith, (bounds (needOf x) (headOf x) (omega (arith, need-most x)) (λ l i r h. whole-length x l i r h) (λ l i r. length-most x l i r) (joined s e) 0) .0)
 
   module _ (q : refusal s e ≡ 0) where
@@ -146,18 +139,6 @@ module _ (x : AudioSyntax) (s : AudioFrameSplitter) (e : Event) where
 
 -- ---- the laws of push
 
-clash : (k : ℕ) (t : Bool) (r b : ℕ) → refused k ≡ done t r b → ⊥
-clash k t r b e = let z : _≡_ {A = ℕ} 0 1 = cc in omega arith
-
-idle-clash : (r b : ℕ) → done false 0 0 ≡ done true r b → ⊥
-idle-clash r b e = let z : _≡_ {A = ℕ} 0 1 = cc in omega arith
-
-rows-said : (t u : Bool) (r b p q : ℕ) → done t r b ≡ done u p q → r ≡ p
-rows-said t u r b p q e = cc
-
-bytes-said : (t u : Bool) (r b p q : ℕ) → done t r b ≡ done u p q → b ≡ q
-bytes-said t u r b p q e = cc
-
 -- what is written over keeps its length
 pub over-length {ℓ} : {A : Type ℓ} (new old : List A) → length new ≤ length old → length (over new old) ≡ length old
 over-length new old h = length-append new (drop (length new) old) ∙ ap (λ (n : ℕ). length new + n) (length-drop (length new) old) ∙ omega arith
@@ -170,7 +151,7 @@ module _ (s : AudioFrameSplitter) (e : Event) where
       push-cases s e
       (λ o. o .answer ≡ done true r b → s .pending + length (e .payload) + s .discarded ≡ b + o .state .discarded + o .state .pending)
       (λ k a. absurd (clash (suc k) true r b a))
-      (λ x known q t a. absurd (idle-clash r b a))
+      (λ x known q t a. absurd (idle-clash 0 0 r b a))
       (λ x known q t a. omega (arith, taken-sum x s e q, bytes-said true true _ _ r b a))
 
   -- the same by the difference of the counts
@@ -180,7 +161,7 @@ module _ (s : AudioFrameSplitter) (e : Event) where
       push-cases s e
       (λ o. o .answer ≡ done true r b → s .pending + length (e .payload) ≡ b + (o .state .discarded - s .discarded) + o .state .pending)
       (λ k a. absurd (clash (suc k) true r b a))
-      (λ x known q t a. absurd (idle-clash r b a))
+      (λ x known q t a. absurd (idle-clash 0 0 r b a))
       (λ x known q t a. omega (arith, taken-sum x s e q, bytes-said true true _ _ r b a))
 
   -- a push that finds at most 8190 bytes pending, be it refused or not, leaves at most 8190
@@ -230,7 +211,7 @@ module _ (x : AudioSyntax) (s : AudioFrameSplitter) (e : Event) (known : syntaxO
     (answered : (push s e) .answer ≡ done true r b) where
   when-taken : (P : Outcome → Type 0) → (refusal s e ≡ 0 → P (pushTaken true x s e)) → P (push s e)
   when-taken P h =
-      push-by s e (λ o. o .answer ≡ done true r b → P o) x known (λ k a. absurd (clash (suc k) true r b a)) (λ q t a. absurd (idle-clash r b a)) (λ q t a. h q)
+      push-by s e (λ o. o .answer ≡ done true r b → P o) x known (λ k a. absurd (clash (suc k) true r b a)) (λ q t a. absurd (idle-clash 0 0 r b a)) (λ q t a. h q)
       answered
 
   -- pending bytes and payload, in order, are the bytes of the cuts
@@ -245,7 +226,7 @@ module _ (x : AudioSyntax) (s : AudioFrameSplitter) (e : Event) (known : syntaxO
   pub push-output : take b ((push s e) .out) ≡ given-bytes (cutsBy x s e)
   push-output =
       push-by s e (λ o. o .answer ≡ done true r b → take b (o .out) ≡ given-bytes (cutsBy x s e)) x known (λ k a. absurd (clash (suc k) true r b a))
-      (λ q t a. absurd (idle-clash r b a))
+      (λ q t a. absurd (idle-clash 0 0 r b a))
       (λ q t a. rw (sym (bytes-said true true _ _ r b a)) (take-append-seam (bytesOf (marked x s e .frames)) _ ∙ stamp-bytes (cutsBy x s e) (s .pending) (clockOf s e)))
       answered
 
@@ -314,7 +295,7 @@ module _ (x : AudioSyntax) (s : AudioFrameSplitter) (e : Event) (known : syntaxO
     where
       go : (h : Head) → (drain h s e) .answer ≡ done true 1 (s .pending) → unread h ≡ false
       go (Read i) a = refl
-      go (Unreadable g) a = absurd (idle-clash 1 (s .pending) a)
+      go (Unreadable g) a = absurd (idle-clash 0 0 1 (s .pending) a)
 
   -- else it changes nothing
   pub flush-none : unread (headOf x (pendingBytes s e)) ≡ true → flush s e ≡ stay (done false 0 0) s e
@@ -341,7 +322,7 @@ module _ (s : AudioFrameSplitter) (e : Event) where
   pub flush-one : (r b : ℕ) → (flush s e) .answer ≡ done true r b → OneFrame s e r b (flush s e)
   flush-one r b =
       flush-cases s e (λ o. o .answer ≡ done true r b → OneFrame s e r b o) (λ k a. absurd (clash (suc k) true r b a))
-      (λ x g known q h a. absurd (idle-clash r b a))
+      (λ x g known q h a. absurd (idle-clash 0 0 r b a))
       (λ x i known q h a.
       let many : b ≡ s .pending = sym (bytes-said true true _ _ r b a) in
       record {

@@ -1,7 +1,8 @@
 -- The laws by concept.
 
--- of lists and tests, and of signed numbers, in general
+-- of lists, of tests and answers, and of signed numbers, in general
 pub mod Lists
+pub mod Answers
 pub mod Signed
 -- the search, and places in a list of frames
 pub mod Cutting

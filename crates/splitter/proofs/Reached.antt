@@ -1,6 +1,6 @@
 -- STATES REACHED BY CALLS are never refused by number 8, and how far the numbers that 11 looks at can have come. Assumes nothing.
 use mathlib.Core.Path.{_≡_, refl, _∙_, ap}
-use mathlib.Core.Bool.{Bool, true, false, _||_}
+use mathlib.Core.Bool.{Bool, true, false}
 use mathlib.Core.List.{List, [], _∷_}
 use Prim.Native.Nat.{ℕ, zero, suc, _+_, _-_, _*_, _≤_}
 use native.Mathlib.Omega.{arith}
@@ -29,6 +29,7 @@ use Rattle.splitter.specs.declared.timing.Clock.{Clock}
 use Rattle.splitter.specs.declared.timing.Geometry.{Geometry}
 use Rattle.splitter.specs.declared.state.AudioFrameSplitter.{AudioFrameSplitter}
 use Rattle.splitter.proofs.Account.{how-many, given-bytes, stamp-bytes}
+use Rattle.splitter.proofs.Answers.{neither}
 use Rattle.splitter.proofs.Laws.{push-cases, flush-cases, taken-pending, taken-sum}
 use Rattle.splitter.proofs.Refusing.{push-sound, flush-sound}
 
@@ -85,14 +86,6 @@ record Ready (c : Clock) (n : ℕ) : Type 0 where
   time : farPts (c .«new_pts») ≡ false
   anchor : Near (c .timing .anchor) n
 
-or-second : (a b : Bool) → (a || b) ≡ false → b ≡ false
-or-second true b e = absurd (let z : _≡_ {A = ℕ} 0 1 = cc in omega arith)
-or-second false b e = e
-
-or-first : (a b : Bool) → (a || b) ≡ false → a ≡ false
-or-first true b e = e
-or-first false b e = refl
-
 near-more : {h : Anchored} {n m : ℕ} → Near h n → n ≤ m → Near h m
 near-more q l = record { within = q .within; since = omega (arith, q .since) }
 
@@ -103,7 +96,7 @@ module _ (g : Geometry) (n : ℕ) (few : g .«samples_per_frame» ≤ 4096) wher
   near-own Absent Free f q = record { within = refl; since = omega arith }
   near-own Absent (To a) f q =
       record {
-        within = rw (le-ltb 4096 (g .«samples_per_frame») few) (or-second (ltb 4096 (a .«samples_per_frame»)) (far (a .pts)) (q .within));
+        within = rw (le-ltb 4096 (g .«samples_per_frame») few) (neither (ltb 4096 (a .«samples_per_frame»)) (far (a .pts)) (q .within) .1);
         since = omega (arith, q .since);
       }
 
@@ -115,7 +108,7 @@ module _ (g : Geometry) (n : ℕ) (few : g .«samples_per_frame» ≤ 4096) wher
 guess-few : (h : Anchored) (n : ℕ) → Near h n → guessOf h .«samples_per_frame» ≤ 4096
 unfolding badAnchor
 guess-few Free n q = omega arith
-guess-few (To a) n q = ltb-false 4096 (a .«samples_per_frame») (or-first (ltb 4096 (a .«samples_per_frame»)) (far (a .pts)) (q .within))
+guess-few (To a) n q = ltb-false 4096 (a .«samples_per_frame») (neither (ltb 4096 (a .«samples_per_frame»)) (far (a .pts)) (q .within) .0)
 
 ready-voided : (v : Bool) (c : Clock) (n : ℕ) → Ready c n → Ready (voided v c) n
 unfolding voided
@@ -151,7 +144,7 @@ near-stamped (short bs ∷ cs) g m c n q = near-more (near-tail (early m) c n q)
 
 state-near : (s : AudioFrameSplitter) → badState s ≡ false → Near (s .timing .anchor) (sinceOf (s .timing .anchor))
 unfolding badState badTiming
-state-near s h = record { within = or-second (ltb 8190 (s .pending)) (badAnchor (s .timing .anchor)) h; since = omega arith }
+state-near s h = record { within = neither (ltb 8190 (s .pending)) (badAnchor (s .timing .anchor)) h .1; since = omega arith }
 
 sound-of : (s : AudioFrameSplitter) → s .pending ≤ 8190 → badAnchor (s .timing .anchor) ≡ false → badState s ≡ false
 unfolding badState badTiming

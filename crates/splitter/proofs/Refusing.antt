@@ -19,6 +19,7 @@ use Rattle.splitter.specs.Answer.{refused, done}
 use Rattle.splitter.specs.Push.{Event, Outcome, firstOf, badState, badCount, tight, refusalOf, refusal, stay, admits, pushTaken, pushBy, pushIn, push}
 use Rattle.splitter.specs.Flush.{flushTightOf, flushRefusalOf, flushRefusal, pendingBytes, drain, flushBy, flushIn, flush}
 use Rattle.splitter.specs.declared.state.AudioFrameSplitter.{AudioFrameSplitter}
+use Rattle.splitter.proofs.Answers.{true-false, clash, idle-clash, number-said}
 use Rattle.splitter.proofs.Laws.{push-cases, flush-cases}
 
 -- ---- telling apart
@@ -26,25 +27,13 @@ use Rattle.splitter.proofs.Laws.{push-cases, flush-cases}
 taken-clash : (k : ℕ) (o : Outcome) (t : Bool) (r b : ℕ) → o .answer ≡ done t r b → o .answer ≡ refused k → ⊥
 taken-clash k o t r b d e = let z : _≡_ {A = ℕ} 0 1 = cc in omega arith
 
-turned-clash : (k : ℕ) (t : Bool) (r b : ℕ) → refused k ≡ done t r b → ⊥
-turned-clash k t r b e = let z : _≡_ {A = ℕ} 0 1 = cc in omega arith
-
-given-clash : (r b p q : ℕ) → done true r b ≡ done false p q → ⊥
-given-clash r b p q e = let z : _≡_ {A = ℕ} 0 1 = cc in omega arith
-
 known-clash : {c : CodedSyntax} (x : AudioSyntax) (g : Refusal) → c ≡ Known x → c ≡ Refused g → ⊥
 known-clash x g p q = let z : _≡_ {A = ℕ} 0 1 = cc in omega arith
-
-true-false : true ≡ false → ⊥
-true-false e = let z : _≡_ {A = ℕ} 0 1 = cc in omega arith
-
-said : (k m : ℕ) → refused k ≡ refused m → k ≡ m
-said k m e = cc
 
 module _ (s : AudioFrameSplitter) (e : Event) where
   -- turned down by the number m, a call leaves all as it was
   stayed : (m k : ℕ) → refused m ≡ refused k → stay (refused m) s e ≡ stay (refused k) s e
-  stayed m k a = ap (λ (n : ℕ). stay (refused n) s e) (said m k a)
+  stayed m k a = ap (λ (n : ℕ). stay (refused n) s e) (number-said m k a)
 
   -- having taken or given nothing, it says so
   idle : (r b : ℕ) → done false 0 0 ≡ done false r b → (stay (done false 0 0) s e ≡ stay (done false 0 0) s e) × (r ≡ 0) × (b ≡ 0)
@@ -89,16 +78,16 @@ module _ (s : AudioFrameSplitter) (e : Event) where
   pub push-refused : (k : ℕ) → (push s e) .answer ≡ refused k → (push s e ≡ stay (refused k) s e) × (7 ≤ k) × (k ≤ 12)
   push-refused k =
       push-numbers (λ o. o .answer ≡ refused k → (o ≡ stay (refused k) s e) × (7 ≤ k) × (k ≤ 12))
-      (λ g q a. (stayed 7 k a, omega (arith, said 7 k a), omega (arith, said 7 k a)))
-      (λ x known j q a. (stayed (suc j) k a, omega (arith, said (suc j) k a, (grounds j q) .1), omega (arith, said (suc j) k a, (grounds j q) .2)))
+      (λ g q a. (stayed 7 k a, omega (arith, number-said 7 k a), omega (arith, number-said 7 k a)))
+      (λ x known j q a. (stayed (suc j) k a, omega (arith, number-said (suc j) k a, (grounds j q) .1), omega (arith, number-said (suc j) k a, (grounds j q) .2)))
       (λ o t r b d a. absurd (taken-clash k o t r b d a))
 
   -- So does one that is not taken, and it says that it wrote nothing.
   pub push-not-taken : (r b : ℕ) → (push s e) .answer ≡ done false r b → (push s e ≡ stay (done false 0 0) s e) × (r ≡ 0) × (b ≡ 0)
   push-not-taken r b =
-      push-cases s e (λ o. o .answer ≡ done false r b → (o ≡ stay (done false 0 0) s e) × (r ≡ 0) × (b ≡ 0)) (λ k a. absurd (turned-clash (suc k) false r b a))
+      push-cases s e (λ o. o .answer ≡ done false r b → (o ≡ stay (done false 0 0) s e) × (r ≡ 0) × (b ≡ 0)) (λ k a. absurd (clash (suc k) false r b a))
       (λ x known q t a. idle r b a)
-      (λ x known q t a. absurd (given-clash _ _ r b a))
+      (λ x known q t a. absurd (idle-clash r b _ _ (sym a)))
 
   module _ (x : AudioSyntax) (known : syntaxOf (s .syntax) ≡ Known x) where
     -- of a code that is known, the number is the first ground's
@@ -106,7 +95,7 @@ module _ (s : AudioFrameSplitter) (e : Event) where
     push-ground k =
         push-numbers (λ o. o .answer ≡ refused k → refusal s e ≡ k)
         (λ g q a. absurd (known-clash x g known q))
-        (λ y q j h a. h ∙ said (suc j) k a)
+        (λ y q j h a. h ∙ number-said (suc j) k a)
         (λ o t r b d a. absurd (taken-clash k o t r b d a))
 
     -- and is 9 to 12 if the state has no ground for 8
@@ -114,7 +103,7 @@ module _ (s : AudioFrameSplitter) (e : Event) where
     push-sound sound k =
         push-numbers (λ o. o .answer ≡ refused k → (9 ≤ k) × (k ≤ 12))
         (λ g q a. absurd (known-clash x g known q))
-        (λ y q j h a. (omega (arith, said (suc j) k a, (grounds j h) .0 sound), omega (arith, said (suc j) k a, (grounds j h) .2)))
+        (λ y q j h a. (omega (arith, number-said (suc j) k a, (grounds j h) .0 sound), omega (arith, number-said (suc j) k a, (grounds j h) .2)))
         (λ o t r b d a. absurd (taken-clash k o t r b d a))
 
   -- ---- flush
@@ -150,8 +139,8 @@ module _ (s : AudioFrameSplitter) (e : Event) where
   pub flush-refused : (k : ℕ) → (flush s e) .answer ≡ refused k → (flush s e ≡ stay (refused k) s e) × ((k ≡ 7) ⊎ (k ≡ 8) ⊎ (k ≡ 12))
   flush-refused k =
       flush-numbers (λ o. o .answer ≡ refused k → (o ≡ stay (refused k) s e) × ((k ≡ 7) ⊎ (k ≡ 8) ⊎ (k ≡ 12)))
-      (λ g q a. (stayed 7 k a, inl (sym (said 7 k a))))
-      (λ x known j q a. (stayed (suc j) k a, inr (either (said (suc j) k a) (flush-grounds j q .1))))
+      (λ g q a. (stayed 7 k a, inl (sym (number-said 7 k a))))
+      (λ x known j q a. (stayed (suc j) k a, inr (either (number-said (suc j) k a) (flush-grounds j q .1))))
       (λ o t r b d a. absurd (taken-clash k o t r b d a))
     where
       either : {m : ℕ} → m ≡ k → (m ≡ 8) ⊎ (m ≡ 12) → (k ≡ 8) ⊎ (k ≡ 12)
@@ -161,14 +150,14 @@ module _ (s : AudioFrameSplitter) (e : Event) where
   -- one that gives no frame leaves all as it was
   pub flush-no-frame : (r b : ℕ) → (flush s e) .answer ≡ done false r b → (flush s e ≡ stay (done false 0 0) s e) × (r ≡ 0) × (b ≡ 0)
   flush-no-frame r b =
-      flush-cases s e (λ o. o .answer ≡ done false r b → (o ≡ stay (done false 0 0) s e) × (r ≡ 0) × (b ≡ 0)) (λ k a. absurd (turned-clash (suc k) false r b a))
+      flush-cases s e (λ o. o .answer ≡ done false r b → (o ≡ stay (done false 0 0) s e) × (r ≡ 0) × (b ≡ 0)) (λ k a. absurd (clash (suc k) false r b a))
       (λ x g known q h a. idle r b a)
-      (λ x i known q h a. absurd (given-clash _ _ r b a))
+      (λ x i known q h a. absurd (idle-clash r b _ _ (sym a)))
 
   -- of a code that is known and a state with no ground for 8, the number is 12
   pub flush-sound : (x : AudioSyntax) → syntaxOf (s .syntax) ≡ Known x → badState s ≡ false → (k : ℕ) → (flush s e) .answer ≡ refused k → k ≡ 12
   flush-sound x known sound k =
       flush-numbers (λ o. o .answer ≡ refused k → k ≡ 12)
       (λ g q a. absurd (known-clash x g known q))
-      (λ y q j h a. sym (said (suc j) k a) ∙ (flush-grounds j h) .0 sound)
+      (λ y q j h a. sym (number-said (suc j) k a) ∙ (flush-grounds j h) .0 sound)
       (λ o t r b d a. absurd (taken-clash k o t r b d a))

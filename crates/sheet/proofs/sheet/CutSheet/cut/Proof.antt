@@ -14,7 +14,7 @@ use Rattle.splitter.proofs.Laws.{rows-fit, push-rows-length}
 use Rattle.sheet.specs.Parts.{RowsFit}
 use Rattle.sheet.specs.Step.{Lent, lent, pushOf, sheetAnswer}
 use Rattle.sheet.proofs.Lines.{push-rows-fit, push-lines-room}
-use Rattle.sheet.proofs.Stepping.{step-tight, step-refused, step-wrote}
+use Rattle.sheet.proofs.Stepping.{step-tight, step-turned, step-wrote}
 use borrow.Author.Needs.{needs}
 use Rattle.sheet.proofs.sheet.CutSheet.cut.Statement.{statement}
 use Rattle.sheet.proofs.sheet.CutSheet.cut.Tie as tie
@@ -96,7 +96,7 @@ returns-2 : tie.Need-returns-2
 returns-2 c =
     let p = c .before .before .before .before .before .before .before .before .before in
     let s = c .before .before .before .before .before .before .before .before .before .before .before .before .before .before .before .before .before .before .before .before in
-    step-refused (s .args .self) (now (s .args .payload)) (lentOf s) (omega (arith, c .before .before .before .before .before .before .before .before .before .before .before .before .before .before .before .if1 .left)) (p .push .last .1 .1 .1 .0) (p .push .last .1 .1 .1 .1 .0) (p .push .last .1 .1 .1 .1 .1 .0)
+    step-turned (s .args .self) (now (s .args .payload)) (lentOf s) (omega (arith, c .before .before .before .before .before .before .before .before .before .before .before .before .before .before .before .if1 .left)) (p .push .last .1 .1 .1 .0) (p .push .last .1 .1 .1 .1 .0) (p .push .last .1 .1 .1 .1 .1 .0)
     (pend-is p) (out-is p) (rows-are p) (refusalNumber (c .before .answer .given .0 .0)) (sym (ap pushAnswer (c .before .answer .given .1)) ∙ answer-is p)
 
 same-length-4 : tie.Need-same-length-4
