@@ -3,14 +3,14 @@
 use mathlib.Core.Path.{_≡_, refl, sym, _∙_, ap, subst}
 use mathlib.Core.Bool.{Bool, true, false, not, cond}
 use mathlib.Core.List.{List, _++_}
-use Prim.Native.Nat.{ℕ, suc, _≤_, _<_, _+_, _*_, _/_}
+use Prim.Native.Nat.{ℕ, zero, suc, _≤_, _<_, _+_, _*_, _/_}
 use native.Mathlib.Nat.{add-zero}
 use native.Mathlib.Numerals.{add-one}
 use native.Mathlib.Omega.{arith}
 use lib.Dec.{eqb, ltb}
 use lib.ListN.{length, getD, take, drop, List·getD-append}
 use lib.Seq.{getD-drop, take-append-le}
-use borrow.Author.Tests.{eq-eqb, ne-eqb, le-leb, ltb-true, ltb-false}
+use borrow.Author.Tests.{lt-ltb, eq-eqb, ne-eqb, le-leb, ltb-true, ltb-false}
 use Rattle.heads.specs.Bits.{Bytes}
 use Rattle.heads.specs.Judge.{refuseIf}
 use Rattle.heads.specs.Numbers.{refusalNumber}
@@ -18,7 +18,7 @@ use Rattle.heads.specs.Adts.{adtsHead, adtsJudged, adtsFields}
 use Rattle.heads.specs.Mpeg.{mpegHead, mpegJudged, mpegFields}
 use Rattle.heads.specs.Eac3.{eac3Fields}
 use Rattle.heads.specs.A52.{a52Head, ac3Syncword}
-use Rattle.heads.specs.Syntax.{headOf, needOf, syntaxOf, headOfCode}
+use Rattle.heads.specs.Syntax.{headOf, needOf, syntaxOf, codedNumber, headOfCode}
 use Rattle.heads.specs.Sync.{pairBegins, syncPlace}
 use Rattle.heads.specs.Promise.{Unread, boundsOf, Within}
 use Rattle.heads.proofs.A52Laws.{short as a52-short, syncword-is as a52-syncword}
@@ -215,6 +215,16 @@ unfolding headOf
 reads-from Ac3 b i e = few 6 (a52Head b) b i (omega arith) (a52-short b) e
 reads-from MpegAudio b i e = few 4 (mpegHead b) b i (omega arith) (mpeg-short b) e
 reads-from AacAdts b i e = few 7 (adtsHead b) b i (omega arith) (adts-short b) e
+
+-- codes up to 2 are known, and those above are refused by 7
+pub code-number : (code : ℕ) → codedNumber (syntaxOf code) ≡ cond (ltb 2 code) 7 0
+unfolding syntaxOf
+code-number zero = refl
+code-number (suc zero) = refl
+code-number (suc (suc zero)) = refl
+code-number (suc (suc (suc code))) =
+    let other : (n : ℕ) → n ≤ 2 → eqb (suc (suc (suc code))) n ≡ false = λ n h. ne-eqb (suc (suc (suc code))) n (λ e. let no : ⊥ = omega arith in no) in
+    rw (other 0 (omega arith), other 1 (omega arith), other 2 (omega arith), lt-ltb 2 (suc (suc (suc code))) (omega arith))
 
 -- reading by a code is reading by its syntax, and a code that has none is refused by 7
 pub coded : (code : ℕ) (s : AudioSyntax) (b : List ℕ) → syntaxOf code ≡ Known s → headOfCode code b ≡ headOf s b

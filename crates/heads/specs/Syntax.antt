@@ -3,6 +3,7 @@ use Prim.Native.Nat.{ℕ}
 use mathlib.Core.List.{List}
 use mathlib.Core.Bool.{cond}
 use lib.Dec.{eqb}
+use Rattle.heads.specs.Numbers.{refusalNumber}
 use Rattle.heads.specs.A52.{a52Head}
 use Rattle.heads.specs.Mpeg.{mpegHead}
 use Rattle.heads.specs.Adts.{adtsHead}
@@ -33,6 +34,11 @@ syntaxOf code =
     (cond (eqb code 1) (Known MpegAudio)
     (cond (eqb code 2) (Known AacAdts)
     (Refused SyntaxCode)))
+
+-- 0 for a code that is known, or the refusal's number
+abbrev pub codedNumber : CodedSyntax → ℕ
+codedNumber (Known s) = 0
+codedNumber (Refused ground) = refusalNumber ground
 
 -- reading a head by syntax code: 7 first
 abbrev pub headBy : CodedSyntax → List ℕ → Head

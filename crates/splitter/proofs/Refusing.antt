@@ -1,23 +1,24 @@
 -- What turns a call down, and what stays then: a call that is refused, or takes nothing, hands back the state and every buffer as they were,
 -- and its number is one of document 01's table. Assumes nothing.
 use mathlib.Core.Path.{_≡_, refl, sym, _∙_, ap}
-use mathlib.Core.Bool.{Bool, true, false}
+use mathlib.Core.Bool.{Bool, true, false, cond}
 use mathlib.Core.Logic.{_⊎_, inl, inr}
 use Prim.Native.Nat.{ℕ, zero, suc, _≤_}
 use native.Mathlib.Omega.{arith}
 use lib.Dec.{ltb}
 use lib.ListN.{length}
-use Rattle.heads.specs.Syntax.{headOf, syntaxOf}
+use Rattle.heads.specs.Syntax.{headOf, syntaxOf, codedNumber}
 use Rattle.heads.specs.declared.info.Head.{Head}
 use Rattle.heads.specs.declared.info.Head.the-variants.{Read, Refused as Unreadable}
 use Rattle.heads.specs.declared.info.Refusal.{Refusal}
 use Rattle.heads.specs.declared.syntax.AudioSyntax.{AudioSyntax}
 use Rattle.heads.specs.declared.syntax.CodedSyntax.{CodedSyntax}
 use Rattle.heads.specs.declared.syntax.CodedSyntax.the-variants.{Known, Refused}
+use Rattle.heads.proofs.Promise.{code-number, uncoded}
 use Rattle.splitter.specs.Stamp.{farPts}
 use Rattle.splitter.specs.Answer.{refused, done}
 use Rattle.splitter.specs.Push.{Event, Outcome, firstOf, badState, badCount, tight, refusalOf, refusal, stay, admits, pushTaken, pushBy, pushIn, push}
-use Rattle.splitter.specs.Flush.{flushTightOf, flushRefusalOf, flushRefusal, pendingBytes, drain, flushBy, flushIn, flush}
+use Rattle.splitter.specs.Flush.{flushTightOf, flushRefusalOf, flushRefusal, pendingBytes, drain, flushBy, flushIn, flush, newIn, newOf, newNumber}
 use Rattle.splitter.specs.declared.state.AudioFrameSplitter.{AudioFrameSplitter}
 use Rattle.splitter.proofs.Answers.{true-false, clash, idle-clash, number-said}
 use Rattle.splitter.proofs.Laws.{push-cases, flush-cases}
@@ -161,3 +162,14 @@ module _ (s : AudioFrameSplitter) (e : Event) where
       (λ g q a. absurd (known-clash x g known q))
       (λ y q j h a. sym (number-said (suc j) k a) ∙ (flush-grounds j h) .0 sound)
       (λ o t r b d a. absurd (taken-clash k o t r b d a))
+
+-- ---- a new splitter
+
+-- Of a code up to 2 one is made, and the others are refused by 7.
+pub new-number : (code : ℕ) → newNumber (newOf code) ≡ cond (ltb 2 code) 7 0
+unfolding newOf
+new-number code = go (syntaxOf code) refl ∙ code-number code
+  where
+    go : (c : CodedSyntax) → syntaxOf code ≡ c → newNumber (newIn c code) ≡ codedNumber c
+    go (Known x) q = refl
+    go (Refused g) q = sym (uncoded code g q)

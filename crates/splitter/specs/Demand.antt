@@ -1,4 +1,5 @@
--- DEMAND 3: what a list of pushes owes on a list A of whole frames, by places in A's bytes and with no word of the splitter.
+-- DEMAND 3: what a list of pushes owes on a list A of whole frames, by places in A's bytes. How the splitter works does not come in; its
+-- calls do, in the claim at the end.
 use mathlib.Core.Path.{_≡_}
 use mathlib.Core.Bool.{Bool, true, false}
 use mathlib.Core.Option.{Option, none, some}

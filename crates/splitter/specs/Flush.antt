@@ -11,7 +11,7 @@ use Rattle.heads.specs.declared.syntax.AudioSyntax.{AudioSyntax}
 use Rattle.heads.specs.declared.syntax.CodedSyntax.{CodedSyntax}
 use Rattle.heads.specs.declared.syntax.CodedSyntax.the-variants.{Known, Refused}
 use Rattle.splitter.specs.Stamp.{emptied, forgotten}
-use Rattle.splitter.specs.Answer.{refused, done}
+use Rattle.splitter.specs.Answer.{refusalNumber, refused, done}
 use Rattle.splitter.specs.Push.{Event, Outcome, firstOf, rowWidth, badState, rowsOf, over, stay, new}
 use Rattle.splitter.specs.declared.answer.NewSplitter.{NewSplitter}
 use Rattle.splitter.specs.declared.answer.NewSplitter.the-variants.{Made}
@@ -73,3 +73,8 @@ newIn (Known x) code = Made (new code)
 
 unfoldable pub newOf : ℕ → NewSplitter
 newOf code = newIn (syntaxOf code) code
+
+-- 0 for a splitter that is made, or the refusal's number
+abbrev pub newNumber : NewSplitter → ℕ
+newNumber (Made s) = 0
+newNumber (NewSplitter.Refused ground) = refusalNumber ground

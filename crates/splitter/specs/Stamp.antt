@@ -1,4 +1,5 @@
--- STAMPING. Times for the cuts of one push, with no word of how they were found. All that knows the rule stands here.
+-- STAMPING. Times for the cuts of one push, with no word of how they were found. The whole rule stands here; Steps.antt names parts of it as
+-- the code calls them.
 -- Document 01, port order 6: 'A thing kept or given that begins in the payload is stamped ..'.
 use mathlib.Core.Bool.{Bool, true, false, _||_}
 use mathlib.Core.List.{List, [], _∷_}

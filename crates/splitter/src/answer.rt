@@ -27,7 +27,7 @@ pub struct Written {
 
 pub enum PushAnswer {
     Refused(SplitterRefusal),
-    // The payload does not begin with a head, and the splitter has never seen one: nothing is kept.
+    // Unlocked, with nothing pending, and the payload does not begin with a head: nothing is kept.
     NotTaken,
     Taken(Written),
 }

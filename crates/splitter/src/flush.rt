@@ -48,7 +48,8 @@ impl AudioFrameSplitter {
         self.syntax
     }
 
-    // Whether a push has handed back a frame: before that, a caller may prefer to pass payloads through whole.
+    // Whether a push has handed back a frame since the splitter was new or unlocked: before that, a caller may prefer to pass payloads
+    // through whole.
     pub fn is_locked(self) -> bool
         ensures { λ r. ⌜ r ≡ self .locked ⌝ }
     {
