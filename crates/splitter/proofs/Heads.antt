@@ -2,7 +2,7 @@
 -- nothing.
 use mathlib.Core.Path.{_≡_, sym, _∙_, ap, subst}
 use mathlib.Core.Logic.{_⊎_, inl, inr}
-use mathlib.Core.Bool.{true, false, _&&_, and-false}
+use mathlib.Core.Bool.{true, false, and-false}
 use mathlib.Core.List.{List, _++_}
 use Prim.Native.Nat.{ℕ, zero, suc, _+_, _-_, _≤_, _<_, min}
 use native.Mathlib.Omega.{arith}
@@ -22,8 +22,8 @@ use Rattle.heads.specs.declared.info.Head.{Head}
 use Rattle.heads.specs.declared.info.Head.the-variants.{Read, Refused}
 use Rattle.heads.specs.declared.info.Refusal.{Refusal}
 use Rattle.heads.specs.declared.syntax.AudioSyntax.{AudioSyntax}
-use Rattle.splitter.specs.Cut.{unread}
 use Rattle.splitter.specs.Push.{over}
+use Rattle.splitter.specs.Search.{noHead}
 use Rattle.splitter.specs.Steps.{UnreadRun}
 use Rattle.splitter.proofs.Lists.{le-or-lt}
 use Rattle.splitter.proofs.Buffers.{joined-length, joined-high, joined-low, slice-high, slice-low}
@@ -62,15 +62,15 @@ module _ (x : AudioSyntax) (p : ℕ) (pend pay : List ℕ) (hp : p ≤ length pe
 
 -- ---- what follows a frame
 
-module _ (need left : ℕ) (h : Head) where
-  pub no-room : left < need → false ≡ (leb need left && unread h)
-  no-room l = rw (lt-leb need left l)
+module _ (x : AudioSyntax) (J : List ℕ) (end : ℕ) where
+  pub no-room : length J - end < needOf x → false ≡ noHead x J end
+  no-room l = rw (lt-leb (needOf x) (length J - end) l)
 
-  pub head-there : (i : AudioFrameInfo) → h ≡ Read i → false ≡ (leb need left && unread h)
-  head-there i e = rw e (sym (and-false (leb need left)))
+  pub head-there : (i : AudioFrameInfo) → headOf x (drop end J) ≡ Read i → false ≡ noHead x J end
+  head-there i e = rw e (sym (and-false (leb (needOf x) (length J - end))))
 
-  pub none-there : need ≤ left → (g : Refusal) → h ≡ Refused g → true ≡ (leb need left && unread h)
-  none-there l g e = rw (e, le-leb need left l)
+  pub none-there : needOf x ≤ length J - end → (g : Refusal) → headOf x (drop end J) ≡ Refused g → true ≡ noHead x J end
+  none-there l g e = rw (e, le-leb (needOf x) (length J - end) l)
 
 -- ---- a run of places with no head
 

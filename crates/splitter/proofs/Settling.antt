@@ -1,12 +1,15 @@
 -- What the search of a push has met, and what a push that has ended hands back: just what the definition says. Assumes nothing.
 use mathlib.Core.Path.{_≡_, refl, sym, _∙_, ap, ap₂, subst}
 use mathlib.Core.Bool.{true, false, _&&_, _||_}
-use mathlib.Core.List.{List, _++_}
+use mathlib.Core.List.{List, [], _∷_, _++_}
+use mathlib.Core.Logic.{⊎-elim}
 use Prim.Native.Nat.{ℕ, _+_, _-_, _*_, _/_, _≤_, _<_}
 use native.Mathlib.Omega.{arith}
 use lib.Dec.{ltb, leb}
 use lib.IntN.{ℤ}
 use lib.ListN.{length, take, drop, length-drop}
+use denote.Enum.Declared.{tagOf}
+use types.Run.{OneOf}
 use Rattle.heads.specs.Syntax.{headOf, needOf}
 use Rattle.heads.proofs.Promise.{samples-most}
 use Rattle.heads.specs.declared.info.AudioFrameInfo.{AudioFrameInfo}
@@ -18,7 +21,8 @@ use Rattle.splitter.specs.Cut.{unread, remainder}
 use Rattle.splitter.specs.Answer.{done, pushAnswer}
 use Rattle.splitter.specs.Stamp.{Sheet}
 use Rattle.splitter.specs.Push.{Event, event, rowWidth, over, bytesOf, rowsOf, anyFrame, refusalOf, pushTaken}
-use Rattle.splitter.specs.Steps.{Good, Small, Settleable, settled, startClock, lostWalk, givenWalk, endTiming}
+use Rattle.splitter.specs.Steps.{Good, Settleable, settled, startClock, lostWalk, givenWalk, endTiming}
+use Rattle.splitter.specs.Search.{Met}
 use Rattle.splitter.specs.declared.answer.Pushed.{Pushed}
 use Rattle.splitter.specs.declared.timing.Clock.{Clock}
 use Rattle.splitter.specs.declared.timing.Pts.{Pts}
@@ -26,62 +30,37 @@ use Rattle.splitter.specs.declared.push.Next.{Next}
 use Rattle.splitter.specs.declared.push.Next.the-variants.{Frame, Partial, End}
 use Rattle.splitter.specs.declared.push.Walk.{Walk}
 use Rattle.splitter.specs.declared.state.AudioFrameSplitter.{AudioFrameSplitter}
+use Rattle.splitter.proofs.push.Next.{the-type}
 use Rattle.splitter.proofs.Clocks.{good-start, good-more}
 use Rattle.splitter.proofs.Walking.{Going, Ended, ends-partial, ends-short, cutsAll, sheetAll, any-length}
 
--- ---- steps of the code, as numbers
+-- ---- what a head that was read says
 
-pub lost-place : (r w : Walk) (n : ℕ) → r ≡ lostWalk w n → r .place ≡ w .place + n
-unfolding lostWalk
-lost-place r w n e = ap (λ (v : Walk). v .place) e
-
-pub given-place : (r w : Walk) (n : ℕ) → r ≡ givenWalk w n → r .place ≡ w .place + n
-unfolding givenWalk
-given-place r w n e = ap (λ (v : Walk). v .place) e
-
-pub not-read : (h k : Head) (g : Refusal) → h ≡ k → h ≡ Refused g → unread k ≡ true
-not-read h k g e r = ap unread (sym e ∙ r)
-
-pub is-read : (h k : Head) (i : AudioFrameInfo) → h ≡ k → h ≡ Read i → k ≡ Read i
-is-read h k i e r = sym e ∙ r
+pub not-read : {h k : Head} {g : Refusal} → h ≡ k → h ≡ Refused g → unread k ≡ true
+not-read e r = ap unread (sym e ∙ r)
 
 pub good-clock : (s : AudioFrameSplitter) (p : ℕ) (t : Pts) (b o r : ℕ) → refusalOf s p t b o r ≡ 0 → (c : Clock) → c ≡ startClock s t → Good 4294000000 c
 unfolding startClock
 good-clock s p t b o r h c e = rw e (good-start s p t b o r h)
 
-module _ (x : AudioSyntax) (J : List ℕ) (p : ℕ) where
-  -- the numbers of a walk stay small
-  pub small : (c₀ : Clock) (out₀ : List ℕ) (rows₀ : List ℤ) (c : Clock) (w : Walk) (out : List ℕ) (rows : List ℤ) (n : ℕ) → Going x J p c₀ out₀ rows₀ c w out rows
-      → length J ≤ 73725 → w .place + n ≤ length J → Small w n
-  small c₀ out₀ rows₀ c w out rows n g h k =
-      record { place-small = omega arith; lost-small = g .gone; rows-small = omega (arith, g .frames-few); bytes-small = g .written }
+-- ---- the end of the walk
 
-  -- ---- what the search has met
+module _ {x : AudioSyntax} {J : List ℕ} {p : ℕ} {c₀ : Clock} {out₀ : List ℕ} {rows₀ : List ℤ} {c : Clock} {w : Walk} {out : List ℕ} {rows : List ℤ} (g : Going x J p c₀ out₀ rows₀ c w out rows) where
+  -- no frame was met, by its tag
+  pub ended : (last : Next) → OneOf (1 ∷ 2 ∷ []) (tagOf the-type last) → Met x J (w .place) last → Ended g last
+  ended (Frame i) k m = absurd (⊎-elim (λ (e : 0 ≡ 1). let b : ⊥ = omega arith in b) (λ (e : 0 ≡ 2). let b : ⊥ = omega arith in b) k)
+  ended (Partial i) k m = ends-partial g i (m .0) (m .1) (m .2) (m .3)
+  ended End k m = ends-short g m
 
-  abbrev pub Met : Walk → Next → Type 0
-  Met w (Frame i) =
-      (headOf x (drop (w .place) J) ≡ Read i) × (needOf x ≤ i .«frame_len») × (w .place + i .«frame_len» ≤ length J)
-      × ((leb (needOf x) (length J - (w .place + i .«frame_len»)) && unread (headOf x (drop (w .place + i .«frame_len») J))) ≡ false)
-  Met w (Partial i) =
-      (headOf x (drop (w .place) J) ≡ Read i) × (w .place + needOf x ≤ length J) × (needOf x ≤ i .«frame_len») × (length J - w .place < i .«frame_len»)
-  Met w End = length J - w .place < needOf x
-
-  module _ (c₀ : Clock) (out₀ : List ℕ) (rows₀ : List ℤ) (c : Clock) (w : Walk) (out : List ℕ) (rows : List ℤ) (g : Going x J p c₀ out₀ rows₀ c w out rows)
-      (ho : length J ≤ length out₀) (hr : rowWidth * (length J / 7) ≤ length rows₀) where
-    pub ended : (last : Next) → ((i : AudioFrameInfo) → last ≡ Frame i → ⊥) → Met w last → Ended x J p c₀ out₀ rows₀ c w out rows g last
-    ended (Frame i) never m = absurd (never i refl)
-    ended (Partial i) never m = ends-partial x J p c₀ out₀ rows₀ c w out rows g ho hr i (m .0) (m .1) (m .2) (m .3)
-    ended End never m = ends-short x J p c₀ out₀ rows₀ c w out rows g ho hr m
-
-    pub settleable : (s : AudioFrameSplitter) (last : Next) (total : ℕ) → Met w last → total ≡ length J → length J ≤ 73725 → s .discarded ≤ 4611686018427387904 → Settleable s w c last total
-    settleable s last total m t h d =
-        record {
-          good = good-more (g .good) (omega (arith, g .frames-few, g .reached));
-          few = λ i e. samples-most x (drop (w .place) J) i ((subst (Met w) e m) .0);
-          reached = omega (arith, g .reached);
-          gone = omega (arith, g .gone, g .reached);
-          room = d;
-        }
+  pub settleable : (s : AudioFrameSplitter) (last : Next) (total : ℕ) → Met x J (w .place) last → total ≡ length J → s .discarded ≤ 4611686018427387904 → Settleable s w c last total
+  settleable s last total m t d =
+      record {
+        good = good-more (g .good) (omega (arith, g .frames-few, g .reached, g .few));
+        few = λ i e. samples-most x (drop (w .place) J) i ((subst (Met x J (w .place)) e m) .0);
+        reached = omega (arith, g .reached);
+        gone = omega (arith, g .gone, g .reached, g .few);
+        room = d;
+      }
 
 -- ---- what a push that has ended hands back
 
@@ -92,21 +71,21 @@ module _ (x : AudioSyntax) (s : AudioFrameSplitter) (pay : List ℕ) (t : Pts) (
   abbrev J : List ℕ
   J = take (s .pending) pend ++ pay
 
-  module _ (c : Clock) (w : Walk) (out : List ℕ) (rows : List ℤ) (g : Going x J (s .pending) c₀ out₀ rows₀ c w out rows) (last : Next) (d : Ended x J (s .pending) c₀ out₀ rows₀ c w out rows g last) (total : ℕ) (size : total ≡ length J) where
+  module _ {c : Clock} {w : Walk} {out : List ℕ} {rows : List ℤ} (g : Going x J (s .pending) c₀ out₀ rows₀ c w out rows) (last : Next) (d : Ended g last) (total : ℕ) (size : total ≡ length J) where
     -- the definition's frames, with the clock as the code made it
     frames-are : sheetAll x J (s .pending) c₀ ≡ sheetAll x J (s .pending) (record { «new_pts» = t; timing = s .timing })
     unfolding startClock
     frames-are = ap (sheetAll x J (s .pending)) start
 
-    pub answer-is : (r : Pushed) → r ≡ settled s w c last total → pushAnswer (r .answer) ≡ pushTaken true x s e .answer
+    answer-is : {r : Pushed} → r ≡ settled s w c last total → pushAnswer (r .answer) ≡ pushTaken true x s e .answer
     unfolding settled
-    answer-is r q =
+    answer-is q =
         ap (λ (z : Pushed). pushAnswer (z .answer)) q
         ∙ ap₂ (λ (a b : ℕ). done true a b) (d .rows-count ∙ ap (λ (z : Sheet). length (z .frames)) frames-are) (d .bytes-count ∙ ap (λ (z : Sheet). length (bytesOf (z .frames))) frames-are)
 
-    pub state-is : (r : Pushed) → r ≡ settled s w c last total → r .splitter ≡ pushTaken true x s e .state
+    state-is : {r : Pushed} → r ≡ settled s w c last total → r .splitter ≡ pushTaken true x s e .state
     unfolding settled
-    state-is r q =
+    state-is q =
         ap (λ (z : Pushed). z .splitter) q
         ∙ (λ j. record {
           syntax = s .syntax;
@@ -116,7 +95,7 @@ module _ (x : AudioSyntax) (s : AudioFrameSplitter) (pay : List ℕ) (t : Pts) (
           locked = s .locked || locked j;
         })
       where
-        left : total - w .place ≡ length (remainder (cutsAll x J (s .pending)))
+        left : total - w .place ≡ length (remainder (cutsAll x J))
         left = (let z : total - w .place ≡ length J - w .place = omega (arith, size) in z) ∙ sym (length-drop (w .place) J) ∙ ap length (d .left-is)
 
         timing : endTiming last (ltb (w .place) (s .pending)) (total - w .place) c ≡ sheetAll x J (s .pending) c₀ .timing
@@ -127,11 +106,17 @@ module _ (x : AudioSyntax) (s : AudioFrameSplitter) (pay : List ℕ) (t : Pts) (
             ap (ltb 0) (d .rows-count ∙ ap (λ (z : Sheet). length (z .frames)) frames-are)
             ∙ sym (any-length (sheetAll x J (s .pending) (record { «new_pts» = t; timing = s .timing }) .frames))
 
-    pub pend-is : (z : List ℕ) → z ≡ over (drop (w .place) J) pend → z ≡ pushTaken true x s e .pend
-    pend-is z q = q ∙ ap (λ (l : List ℕ). over l pend) (d .left-is)
-
-    pub out-is : out ≡ pushTaken true x s e .out
-    out-is = d .out-is ∙ ap (λ (z : Sheet). over (bytesOf (z .frames)) out₀) frames-are
-
-    pub rows-are : rows ≡ pushTaken true x s e .rows
-    rows-are = d .rows-is ∙ ap (λ (z : Sheet). over (rowsOf (z .frames)) rows₀) frames-are
+    -- the answer, the state, and the three lent buffers
+    pub handed-back : {r : Pushed} {z : List ℕ} → r ≡ settled s w c last total → z ≡ over (drop (w .place) J) pend
+        → (pushAnswer (r .answer) ≡ pushTaken true x s e .answer)
+        × ((r .splitter ≡ pushTaken true x s e .state) × ((z ≡ pushTaken true x s e .pend) × ((out ≡ pushTaken true x s e .out) × (rows ≡ pushTaken true x s e .rows))))
+    handed-back q k = (
+      answer-is q,
+      (
+        state-is q,
+        (
+          k ∙ ap (λ (l : List ℕ). over l pend) (d .left-is),
+          (d .out-is ∙ ap (λ (z : Sheet). over (bytesOf (z .frames)) out₀) frames-are, d .rows-is ∙ ap (λ (z : Sheet). over (rowsOf (z .frames)) rows₀) frames-are),
+        ),
+      ),
+    )

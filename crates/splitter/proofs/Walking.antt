@@ -12,6 +12,7 @@ use lib.IntN.{ℤ}
 use lib.ListN.{length, take, drop, getD, length-drop}
 use lib.Seq.{drop-drop, length-take-le}
 use borrow.Author.Tests.{lt-ltb, le-ltb, le-leb, leb-true}
+use borrow.Rule.Slice.PartMut.{putMid}
 use Rattle.heads.specs.Syntax.{headOf, needOf}
 use Rattle.heads.proofs.Promise.{need-least, need-most, length-most, samples-most, whole-length}
 use Rattle.heads.specs.declared.info.AudioFrameInfo.{AudioFrameInfo}
@@ -20,16 +21,17 @@ use Rattle.heads.specs.declared.syntax.AudioSyntax.{AudioSyntax}
 use Rattle.splitter.specs.Cut.{Cut, lost, given, kept, short, unread, walk, remainder, losses}
 use Rattle.splitter.specs.Stamp.{Frame, Sheet, ahead, early, give, keep, keepTail, voided, stampCuts}
 use Rattle.splitter.specs.Push.{rowWidth, bytesOf, row, rowsOf, over, anyFrame}
-use Rattle.splitter.specs.Steps.{Good, UnreadRun, rowBy, lostWalk, givenWalk, tailTiming, endTiming}
+use Rattle.splitter.specs.Steps.{Good, Small, UnreadRun, rowBy, startWalk, lostWalk, givenWalk, tailTiming, endTiming}
+use Rattle.splitter.specs.Search.{Slid, Met, cutsFrom, sheetFrom, noHead}
 use Rattle.splitter.specs.declared.timing.Clock.{Clock}
 use Rattle.splitter.specs.declared.push.Next.{Next}
-use Rattle.splitter.specs.declared.push.Next.the-variants.{Partial, End}
+use Rattle.splitter.specs.declared.push.Next.the-variants.{Frame as Whole, Partial, End}
 use Rattle.splitter.specs.declared.push.Walk.{Walk}
 use Rattle.splitter.proofs.Lists.{le-or-lt, nil-of}
 use Rattle.splitter.proofs.Cutting.{walk-short, walk-kept, walk-given, walk-below, walk-false}
 use Rattle.splitter.proofs.Runs.{Silent, unread-test, unread-losses, unread-remainder, unread-stamps}
 use Rattle.splitter.proofs.Clocks.{good-more, good-voided, good-given}
-use Rattle.splitter.proofs.Buffers.{Writing, writing-none, writing-more, writing-done}
+use Rattle.splitter.proofs.Buffers.{Writing, write-after, writing-none, writing-more, writing-done}
 
 -- ---- small facts
 
@@ -63,34 +65,18 @@ both-true : (a b : Bool) → (a && b) ≡ true → (a ≡ true) × (b ≡ true)
 both-true true b e = (refl, e)
 both-true false b e = let z : _≡_ {A = ℕ} 0 1 = cc in absurd (let no : ⊥ = omega arith in no)
 
-module _ (x : AudioSyntax) (J : List ℕ) (p : ℕ) where
-  abbrev pub cutsFrom : ℕ → List Cut
-  cutsFrom at = walk (needOf x) (headOf x) (drop at J) 0
+-- all cuts, and all frames with their stamps
+abbrev pub cutsAll : AudioSyntax → List ℕ → List Cut
+cutsAll x J = walk (needOf x) (headOf x) J 0
 
-  abbrev pub sheetFrom : ℕ → Clock → Sheet
-  sheetFrom at c = stampCuts (p - at) c (cutsFrom at)
+abbrev pub sheetAll : AudioSyntax → List ℕ → ℕ → Clock → Sheet
+sheetAll x J p c = stampCuts p c (cutsAll x J)
 
-  abbrev pub cutsAll : List Cut
-  cutsAll = walk (needOf x) (headOf x) J 0
+-- ---- the search: from a place to a later one, all between being lost
 
-  abbrev pub sheetAll : Clock → Sheet
-  sheetAll c = stampCuts p c cutsAll
-
-  -- ---- the search: from a place to a later one, all between being lost
-
-  pub record Slid (c₀ : Clock) (w₀ : Walk) (c : Clock) (w : Walk) : Type 0 where
-    pub reached : w .place ≤ length J
-    pub onward : w₀ .place ≤ w .place
-    pub lost-by : w .lost + w₀ .place ≡ w₀ .lost + w .place
-    pub same-rows : w .rows ≡ w₀ .rows
-    pub same-bytes : w .bytes ≡ w₀ .bytes
-    pub sheets : sheetFrom (w₀ .place) c₀ ≡ sheetFrom (w .place) c
-    pub losses-are : w₀ .lost + losses (cutsFrom (w₀ .place)) ≡ w .lost + losses (cutsFrom (w .place))
-    pub left : remainder (cutsFrom (w₀ .place)) ≡ remainder (cutsFrom (w .place))
-    pub good : (n : ℕ) → Good n c₀ → Good n c
-
-  pub slid-none : (c : Clock) (w : Walk) → w .place ≤ length J → Slid c w c w
-  slid-none c w h =
+module _ {x : AudioSyntax} {J : List ℕ} {p : ℕ} where
+  pub slid-none : {c : Clock} {w : Walk} → w .place ≤ length J → Slid x J p c w c w
+  slid-none h =
       record {
         reached = h;
         onward = omega arith;
@@ -103,18 +89,28 @@ module _ (x : AudioSyntax) (J : List ℕ) (p : ℕ) where
         good = λ n g. g;
       }
 
-  module _ (c₀ : Clock) (w₀ : Walk) (c : Clock) (w : Walk) (s : Slid c₀ w₀ c w) where
+  module _ {c₀ : Clock} {w₀ : Walk} {c : Clock} {w : Walk} (s : Slid x J p c₀ w₀ c w) where
     abbrev l : List ℕ
     l = drop (w .place) J
 
     room : length l ≡ length J - w .place
     room = length-drop (w .place) J
 
+    -- its numbers stay small
+    pub slid-small : {n : ℕ} → Small w₀ 0 → length J ≤ 73725 → w .place + n ≤ length J → Small w n
+    slid-small b h k =
+        record {
+          place-small = omega arith;
+          lost-small = omega (arith, b .lost-small, s .onward, s .lost-by);
+          rows-small = omega (arith, b .rows-small, s .onward, s .same-rows);
+          bytes-small = omega (arith, b .bytes-small, s .onward, s .same-bytes);
+        }
+
     slid-on : (n : ℕ) (c′ : Clock) → w .place + n ≤ length J
-        → losses (cutsFrom (w .place)) ≡ n + losses (cutsFrom (w .place + n))
-        → remainder (cutsFrom (w .place)) ≡ remainder (cutsFrom (w .place + n))
-        → sheetFrom (w .place) c ≡ sheetFrom (w .place + n) c′
-        → ((m : ℕ) → Good m c → Good m c′) → Slid c₀ w₀ c′ (lostWalk w n)
+        → losses (cutsFrom x J (w .place)) ≡ n + losses (cutsFrom x J (w .place + n))
+        → remainder (cutsFrom x J (w .place)) ≡ remainder (cutsFrom x J (w .place + n))
+        → sheetFrom x J p (w .place) c ≡ sheetFrom x J p (w .place + n) c′
+        → ((m : ℕ) → Good m c → Good m c′) → Slid x J p c₀ w₀ c′ (lostWalk w n)
     unfolding lostWalk
     slid-on n c′ h a b d g =
         record {
@@ -124,13 +120,13 @@ module _ (x : AudioSyntax) (J : List ℕ) (p : ℕ) where
           same-rows = s .same-rows;
           same-bytes = s .same-bytes;
           sheets = s .sheets ∙ d;
-          losses-are = s .losses-are ∙ (let e : w .lost + losses (cutsFrom (w .place)) ≡ w .lost + n + losses (cutsFrom (w .place + n)) = omega (arith, a) in e);
+          losses-are = s .losses-are ∙ (let e : w .lost + losses (cutsFrom x J (w .place)) ≡ w .lost + n + losses (cutsFrom x J (w .place + n)) = omega (arith, a) in e);
           left = s .left ∙ b;
           good = λ m k. g m (s .good m k);
         }
 
     -- a run of places at which no head reads
-    module _ (n : ℕ) (u : unread (headOf x l) ≡ true) (r : UnreadRun x J (w .place) n) where
+    module _ {n : ℕ} (u : unread (headOf x l) ≡ true) (r : UnreadRun x J (w .place) n) where
       silent : Silent (needOf x) (headOf x) l n
       silent zero h = (omega (arith, room, r .room), u)
       silent (suc j) h = (
@@ -139,10 +135,10 @@ module _ (x : AudioSyntax) (J : List ℕ) (p : ℕ) where
             ∙ unread-test (headOf x (drop (w .place + suc j) J)) (r .unread (suc j) (omega arith) h),
       )
 
-      next : walk (needOf x) (headOf x) (drop n l) 0 ≡ cutsFrom (w .place + n)
+      next : walk (needOf x) (headOf x) (drop n l) 0 ≡ cutsFrom x J (w .place + n)
       next = ap (λ (k : List ℕ). walk (needOf x) (headOf x) k 0) (drop-drop n (w .place) J)
 
-      pub slid-run : Slid c₀ w₀ (voided true c) (lostWalk w n)
+      pub slid-run : Slid x J p c₀ w₀ (voided true c) (lostWalk w n)
       slid-run =
           slid-on n (voided true c) (omega (arith, r .room, need-least x))
           (unread-losses (needOf x) (headOf x) (some-need x) n l silent ∙ ap (λ (cs : List Cut). n + losses cs) next)
@@ -152,28 +148,28 @@ module _ (x : AudioSyntax) (J : List ℕ) (p : ℕ) where
           (λ m g. good-voided true g)
 
     -- one byte
-    slid-one : (v : Bool) → w .place + 1 ≤ length J → walk (needOf x) (headOf x) l 0 ≡ lost v (getD l 0 0) ∷ walk (needOf x) (headOf x) (drop 1 l) 0 → Slid c₀ w₀ (voided v c) (lostWalk w 1)
+    slid-one : (v : Bool) → w .place + 1 ≤ length J → walk (needOf x) (headOf x) l 0 ≡ lost v (getD l 0 0) ∷ walk (needOf x) (headOf x) (drop 1 l) 0 → Slid x J p c₀ w₀ (voided v c) (lostWalk w 1)
     slid-one v h e =
         slid-on 1 (voided v c) h
-        (ap losses step ∙ (let o : suc (losses (cutsFrom (w .place + 1))) ≡ 1 + losses (cutsFrom (w .place + 1)) = omega arith in o))
+        (ap losses step ∙ (let o : suc (losses (cutsFrom x J (w .place + 1))) ≡ 1 + losses (cutsFrom x J (w .place + 1)) = omega arith in o))
         (ap remainder step)
-        (ap (stampCuts (p - w .place) c) step ∙ ap (λ (m : ℕ). stampCuts m (voided v c) (cutsFrom (w .place + 1))) (let o : p - w .place - 1 ≡ p - (w .place + 1) = omega arith in o))
+        (ap (stampCuts (p - w .place) c) step ∙ ap (λ (m : ℕ). stampCuts m (voided v c) (cutsFrom x J (w .place + 1))) (let o : p - w .place - 1 ≡ p - (w .place + 1) = omega arith in o))
         (λ m g. good-voided v g)
       where
-        step : cutsFrom (w .place) ≡ lost v (getD l 0 0) ∷ cutsFrom (w .place + 1)
+        step : cutsFrom x J (w .place) ≡ lost v (getD l 0 0) ∷ cutsFrom x J (w .place + 1)
         step = e ∙ ap (λ (k : List ℕ). lost v (getD l 0 0) ∷ walk (needOf x) (headOf x) k 0) (drop-drop 1 (w .place) J)
 
     module _ (i : AudioFrameInfo) (h : headOf x l ≡ Read i) (enough : w .place + needOf x ≤ length J) where
       -- a length below the need
-      pub slid-below : i .«frame_len» < needOf x → Slid c₀ w₀ c (lostWalk w 1)
+      pub slid-below : i .«frame_len» < needOf x → Slid x J p c₀ w₀ c (lostWalk w 1)
       slid-below k =
-          subst (λ (d : Clock). Slid c₀ w₀ d (lostWalk w 1)) (voided-not c)
+          subst (λ (d : Clock). Slid x J p c₀ w₀ d (lostWalk w 1)) (voided-not c)
           (slid-one false (omega (arith, some-need x)) (walk-below (needOf x) (headOf x) l i (some-need x) (omega (arith, room)) h k))
 
       -- followed by what is no head
       pub slid-false : needOf x ≤ i .«frame_len» → w .place + i .«frame_len» ≤ length J
-          → (leb (needOf x) (length J - (w .place + i .«frame_len»)) && unread (headOf x (drop (w .place + i .«frame_len») J))) ≡ true
-          → Slid c₀ w₀ (voided true c) (lostWalk w 1)
+          → noHead x J (w .place + i .«frame_len») ≡ true
+          → Slid x J p c₀ w₀ (voided true c) (lostWalk w 1)
       slid-false a b f =
           slid-one true (omega (arith, some-need x))
           (walk-false (needOf x) (headOf x) l i (some-need x) (omega (arith, room)) h a (omega (arith, room))
@@ -183,54 +179,62 @@ module _ (x : AudioSyntax) (J : List ℕ) (p : ℕ) where
           both : (leb (needOf x) (length J - (w .place + i .«frame_len»)) ≡ true) × (unread (headOf x (drop (w .place + i .«frame_len») J)) ≡ true)
           both = both-true (leb (needOf x) (length J - (w .place + i .«frame_len»))) (unread (headOf x (drop (w .place + i .«frame_len») J))) f
 
-  -- ---- between two searches
+-- ---- between two searches
 
-  pub record Going (c₀ : Clock) (out₀ : List ℕ) (rows₀ : List ℤ) (c : Clock) (w : Walk) (out : List ℕ) (rows : List ℤ) : Type 0 where
-    pub reached : w .place ≤ length J
-    pub written : w .bytes ≤ w .place
-    pub frames-few : 7 * w .rows ≤ w .place
-    pub gone : w .lost ≤ w .place
-    pub good : Good (4294000000 + w .rows) c
-    pub outs : Writing (w .bytes) out out₀ (bytesOf (sheetFrom (w .place) c .frames)) (bytesOf (sheetAll c₀ .frames))
-    pub lines : Writing (rowWidth * w .rows) rows rows₀ (rowsOf (sheetFrom (w .place) c .frames)) (rowsOf (sheetAll c₀ .frames))
-    pub times : sheetFrom (w .place) c .timing ≡ sheetAll c₀ .timing
-    pub left : remainder (cutsFrom (w .place)) ≡ remainder cutsAll
-    pub lost-are : w .lost + losses (cutsFrom (w .place)) ≡ losses cutsAll
-    pub count : w .rows + length (sheetFrom (w .place) c .frames) ≡ length (sheetAll c₀ .frames)
+pub record Going (x : AudioSyntax) (J : List ℕ) (p : ℕ) (c₀ : Clock) (out₀ : List ℕ) (rows₀ : List ℤ) (c : Clock) (w : Walk) (out : List ℕ) (rows : List ℤ) : Type 0 where
+  pub few : length J ≤ 73725
+  pub out-fits : length J ≤ length out₀
+  pub rows-fit : rowWidth * (length J / 7) ≤ length rows₀
+  pub reached : w .place ≤ length J
+  pub written : w .bytes ≤ w .place
+  pub frames-few : 7 * w .rows ≤ w .place
+  pub gone : w .lost ≤ w .place
+  pub good : Good (4294000000 + w .rows) c
+  pub outs : Writing (w .bytes) out out₀ (bytesOf (sheetFrom x J p (w .place) c .frames)) (bytesOf (sheetAll x J p c₀ .frames))
+  pub lines : Writing (rowWidth * w .rows) rows rows₀ (rowsOf (sheetFrom x J p (w .place) c .frames)) (rowsOf (sheetAll x J p c₀ .frames))
+  pub times : sheetFrom x J p (w .place) c .timing ≡ sheetAll x J p c₀ .timing
+  pub left : remainder (cutsFrom x J (w .place)) ≡ remainder (cutsAll x J)
+  pub lost-are : w .lost + losses (cutsFrom x J (w .place)) ≡ losses (cutsAll x J)
+  pub count : w .rows + length (sheetFrom x J p (w .place) c .frames) ≡ length (sheetAll x J p c₀ .frames)
 
-  abbrev pub start : Walk
-  start = record { place = 0; lost = 0; rows = 0; bytes = 0 }
-
-  pub going-first : (c₀ : Clock) (out₀ : List ℕ) (rows₀ : List ℤ) → Good 4294000000 c₀ → Going c₀ out₀ rows₀ c₀ start out₀ rows₀
-  going-first c₀ out₀ rows₀ g =
+module _ {x : AudioSyntax} {J : List ℕ} {p : ℕ} where
+  pub going-first : {c₀ : Clock} {out₀ : List ℕ} {rows₀ : List ℤ} → length J ≤ 73725 → length J ≤ length out₀ → rowWidth * (length J / 7) ≤ length rows₀ → Good 4294000000 c₀
+      → Going x J p c₀ out₀ rows₀ c₀ startWalk out₀ rows₀
+  going-first {c₀} {out₀} {rows₀} few out-fits rows-fit g =
       record {
+        few = few;
+        out-fits = out-fits;
+        rows-fit = rows-fit;
         reached = omega arith;
         written = omega arith;
         frames-few = omega arith;
         gone = omega arith;
         good = good-more g (omega arith);
-        outs = subst (λ (s : Sheet). Writing 0 out₀ out₀ (bytesOf (s .frames)) (bytesOf (sheetAll c₀ .frames))) same (writing-none out₀ (bytesOf (sheetAll c₀ .frames)));
-        lines = subst (λ (s : Sheet). Writing 0 rows₀ rows₀ (rowsOf (s .frames)) (rowsOf (sheetAll c₀ .frames))) same (writing-none rows₀ (rowsOf (sheetAll c₀ .frames)));
+        outs = subst (λ (s : Sheet). Writing 0 out₀ out₀ (bytesOf (s .frames)) (bytesOf (sheetAll x J p c₀ .frames))) same (writing-none out₀ (bytesOf (sheetAll x J p c₀ .frames)));
+        lines = subst (λ (s : Sheet). Writing 0 rows₀ rows₀ (rowsOf (s .frames)) (rowsOf (sheetAll x J p c₀ .frames))) same (writing-none rows₀ (rowsOf (sheetAll x J p c₀ .frames)));
         times = ap (λ (s : Sheet). s .timing) (sym same);
         left = refl;
         lost-are = omega arith;
-        count = (let e : 0 + length (sheetFrom 0 c₀ .frames) ≡ length (sheetFrom 0 c₀ .frames) = omega arith in e) ∙ ap (λ (s : Sheet). length (s .frames)) (sym same);
+        count = (let e : 0 + length (sheetFrom x J p 0 c₀ .frames) ≡ length (sheetFrom x J p 0 c₀ .frames) = omega arith in e) ∙ ap (λ (s : Sheet). length (s .frames)) (sym same);
       }
     where
-      same : sheetAll c₀ ≡ sheetFrom 0 c₀
-      same = ap (λ (m : ℕ). stampCuts m c₀ cutsAll) (sym (sub-zero p))
+      same : sheetAll x J p c₀ ≡ sheetFrom x J p 0 c₀
+      same = ap (λ (m : ℕ). stampCuts m c₀ (cutsAll x J)) (sym (sub-zero p))
 
-  module _ (c₀ : Clock) (out₀ : List ℕ) (rows₀ : List ℤ) (c : Clock) (w : Walk) (out : List ℕ) (rows : List ℤ) (g : Going c₀ out₀ rows₀ c w out rows) where
-    pub going-slid : (c′ : Clock) (w′ : Walk) → Slid c w c′ w′ → Going c₀ out₀ rows₀ c′ w′ out rows
-    going-slid c′ w′ s =
+  module _ {c₀ : Clock} {out₀ : List ℕ} {rows₀ : List ℤ} {c : Clock} {w : Walk} {out : List ℕ} {rows : List ℤ} (g : Going x J p c₀ out₀ rows₀ c w out rows) where
+    pub going-slid : {c′ : Clock} {w′ : Walk} → Slid x J p c w c′ w′ → Going x J p c₀ out₀ rows₀ c′ w′ out rows
+    going-slid {c′} {w′} s =
         record {
+          few = g .few;
+          out-fits = g .out-fits;
+          rows-fit = g .rows-fit;
           reached = s .reached;
           written = omega (arith, g .written, s .onward, s .same-bytes);
           frames-few = omega (arith, g .frames-few, s .onward, s .same-rows);
           gone = omega (arith, g .gone, s .onward, s .lost-by);
           good = subst (λ (n : ℕ). Good (4294000000 + n) c′) (sym (s .same-rows)) (s .good (4294000000 + w .rows) (g .good));
-          outs = subst₂ (λ (n : ℕ) (t : Sheet). Writing n out out₀ (bytesOf (t .frames)) (bytesOf (sheetAll c₀ .frames))) (sym (s .same-bytes)) (s .sheets) (g .outs);
-          lines = subst₂ (λ (n : ℕ) (t : Sheet). Writing (rowWidth * n) rows rows₀ (rowsOf (t .frames)) (rowsOf (sheetAll c₀ .frames))) (sym (s .same-rows)) (s .sheets) (g .lines);
+          outs = subst₂ (λ (n : ℕ) (t : Sheet). Writing n out out₀ (bytesOf (t .frames)) (bytesOf (sheetAll x J p c₀ .frames))) (sym (s .same-bytes)) (s .sheets) (g .outs);
+          lines = subst₂ (λ (n : ℕ) (t : Sheet). Writing (rowWidth * n) rows rows₀ (rowsOf (t .frames)) (rowsOf (sheetAll x J p c₀ .frames))) (sym (s .same-rows)) (s .sheets) (g .lines);
           times = ap (λ (t : Sheet). t .timing) (sym (s .sheets)) ∙ g .times;
           left = sym (s .left) ∙ g .left;
           lost-are = sym (s .losses-are) ∙ g .lost-are;
@@ -243,9 +247,13 @@ module _ (x : AudioSyntax) (J : List ℕ) (p : ℕ) where
     room′ : length l′ ≡ length J - w .place
     room′ = length-drop (w .place) J
 
+    -- the numbers of a walk stay small
+    pub going-small : {n : ℕ} → w .place + n ≤ length J → Small w n
+    going-small k =
+        record { place-small = omega (arith, g .few); lost-small = g .gone; rows-small = omega (arith, g .frames-few); bytes-small = g .written }
+
     -- a frame is handed back
-    module _ (i : AudioFrameInfo) (h : headOf x l′ ≡ Read i) (long : needOf x ≤ i .«frame_len») (whole : w .place + i .«frame_len» ≤ length J)
-        (f : (leb (needOf x) (length J - (w .place + i .«frame_len»)) && unread (headOf x (drop (w .place + i .«frame_len») J))) ≡ false) where
+    module _ (i : AudioFrameInfo) (m : Met x J (w .place) (Whole i)) where
       abbrev n : ℕ
       n = i .«frame_len»
 
@@ -253,7 +261,7 @@ module _ (x : AudioSyntax) (J : List ℕ) (p : ℕ) where
       bytes = take n l′
 
       size : length bytes ≡ n
-      size = length-take-le n l′ (omega (arith, room′))
+      size = length-take-le n l′ (omega (arith, room′, m .2))
 
       abbrev c⁺ : Clock
       c⁺ = give (ltb (w .place) p) i c .clock
@@ -261,140 +269,149 @@ module _ (x : AudioSyntax) (J : List ℕ) (p : ℕ) where
       abbrev frame : Frame
       frame = record { info = i; bytes = bytes; stamp = give (ltb (w .place) p) i c .pts }
 
-      cut : cutsFrom (w .place) ≡ given i bytes ∷ cutsFrom (w .place + n)
+      cut : cutsFrom x J (w .place) ≡ given i bytes ∷ cutsFrom x J (w .place + n)
       cut =
-          walk-given (needOf x) (headOf x) l′ i (some-need x) (omega (arith, room′)) h long (omega (arith, room′))
+          walk-given (needOf x) (headOf x) l′ i (some-need x) (omega (arith, room′, m .1, m .2)) (m .0) (m .1) (omega (arith, room′, m .2))
           (λ k. ap (λ (z : List ℕ). unread (headOf x z)) (drop-drop n (w .place) J)
-          ∙ both-false (leb (needOf x) (length J - (w .place + n))) (unread (headOf x (drop (w .place + n) J))) f
+          ∙ both-false (leb (needOf x) (length J - (w .place + n))) (unread (headOf x (drop (w .place + n) J))) (m .3)
           (le-leb (needOf x) (length J - (w .place + n)) (omega (arith, room′, length-drop n l′))))
           ∙ ap (λ (z : List ℕ). given i bytes ∷ walk (needOf x) (headOf x) z 0) (drop-drop n (w .place) J)
 
-      sheet-is : sheetFrom (w .place) c ≡ ahead frame (sheetFrom (w .place + n) c⁺)
+      sheet-is : sheetFrom x J p (w .place) c ≡ ahead frame (sheetFrom x J p (w .place + n) c⁺)
       sheet-is =
           ap (stampCuts (p - w .place) c) cut
-          ∙ ap (λ (b : Bool). ahead (record { info = i; bytes = bytes; stamp = give b i c .pts }) (stampCuts (p - w .place - length bytes) (give b i c .clock) (cutsFrom (w .place + n)))) (early-is p (w .place))
-          ∙ ap (λ (m : ℕ). ahead frame (stampCuts m c⁺ (cutsFrom (w .place + n)))) (let e : p - w .place - length bytes ≡ p - (w .place + n) = omega (arith, size) in e)
+          ∙ ap (λ (b : Bool). ahead (record { info = i; bytes = bytes; stamp = give b i c .pts }) (stampCuts (p - w .place - length bytes) (give b i c .clock) (cutsFrom x J (w .place + n)))) (early-is p (w .place))
+          ∙ ap (λ (m : ℕ). ahead frame (stampCuts m c⁺ (cutsFrom x J (w .place + n)))) (let e : p - w .place - length bytes ≡ p - (w .place + n) = omega (arith, size) in e)
 
       seven : 7 ≤ n
-      seven = whole-length x l′ i h long
+      seven = whole-length x l′ i (m .0) (m .1)
 
-      module _ (X : List ℕ) (Y : List ℤ) (ho : length J ≤ length out₀) (hr : rowWidth * (length J / 7) ≤ length rows₀)
-          (ex : X ≡ take (w .bytes) out ++ over bytes (drop (w .bytes) out))
-          (ey : Y ≡ take (rowWidth * w .rows) rows ++ over (rowBy i (give (ltb (w .place) p) i c .pts)) (drop (rowWidth * w .rows) rows)) where
-        pub going-given : Going c₀ out₀ rows₀ c⁺ (givenWalk w n) X Y
+      -- there is room for its bytes and for its row
+      pub bytes-room : w .bytes + n ≤ length out
+      bytes-room = omega (arith, g .written, m .2, g .out-fits, g .outs .same)
+
+      pub row-room : rowWidth * w .rows + rowWidth ≤ length rows
+      row-room = omega (arith, g .frames-few, m .2, seven, g .rows-fit, g .lines .same)
+
+      -- it was copied to the front of what is free of the output, and its row to the front of what is free of the rows
+      module _ {zs : List ℕ} {ls : List ℤ} (ez : zs ≡ over bytes (take (length out - w .bytes) (drop (w .bytes) out)))
+          (el : ls ≡ over (rowBy i (frame .stamp)) (take (length rows - rowWidth * w .rows) (drop (rowWidth * w .rows) rows))) where
+        pub going-given : Going x J p c₀ out₀ rows₀ c⁺ (givenWalk w n) (putMid (w .bytes) (length out - w .bytes) out zs) (putMid (rowWidth * w .rows) (length rows - rowWidth * w .rows) rows ls)
         unfolding givenWalk
         going-given =
             record {
-              reached = whole;
+              few = g .few;
+              out-fits = g .out-fits;
+              rows-fit = g .rows-fit;
+              reached = m .2;
               written = omega (arith, g .written);
               frames-few = omega (arith, g .frames-few, seven);
               gone = omega (arith, g .gone);
-              good = good-more (good-given (ltb (w .place) p) i (g .good) (samples-most x l′ i h)) (omega arith);
-              outs = rw ex (subst (λ (k : ℕ). Writing (w .bytes + k) (take (w .bytes) out ++ over bytes (drop (w .bytes) out)) out₀ (bytesOf (sheetFrom (w .place + n) c⁺ .frames)) (bytesOf (sheetAll c₀ .frames))) size outs⁺);
-              lines = rw ey lines⁺;
+              good = good-more (good-given (ltb (w .place) p) i (g .good) (samples-most x l′ i (m .0))) (omega arith);
+              outs = rw (write-after (w .bytes) bytes out zs (omega (arith, bytes-room)) ez) (subst (λ (k : ℕ). Writing (w .bytes + k) (take (w .bytes) out ++ over bytes (drop (w .bytes) out)) out₀ (bytesOf (sheetFrom x J p (w .place + n) c⁺ .frames)) (bytesOf (sheetAll x J p c₀ .frames))) size outs⁺);
+              lines = rw (write-after (rowWidth * w .rows) (rowBy i (frame .stamp)) rows ls (omega (arith, row-room)) el) lines⁺;
               times = ap (λ (t : Sheet). t .timing) (sym sheet-is) ∙ g .times;
               left = ap remainder (sym cut) ∙ g .left;
               lost-are = ap (λ (cs : List Cut). w .lost + losses cs) (sym cut) ∙ g .lost-are;
-              count = (let e : w .rows + 1 + length (sheetFrom (w .place + n) c⁺ .frames) ≡ w .rows + suc (length (sheetFrom (w .place + n) c⁺ .frames)) = omega arith in e)
+              count = (let e : w .rows + 1 + length (sheetFrom x J p (w .place + n) c⁺ .frames) ≡ w .rows + suc (length (sheetFrom x J p (w .place + n) c⁺ .frames)) = omega arith in e)
                   ∙ ap (λ (t : Sheet). w .rows + length (t .frames)) (sym sheet-is) ∙ g .count;
             }
           where
-            o : Writing (w .bytes) out out₀ (bytes ++ bytesOf (sheetFrom (w .place + n) c⁺ .frames)) (bytesOf (sheetAll c₀ .frames))
-            o = subst (λ (t : Sheet). Writing (w .bytes) out out₀ (bytesOf (t .frames)) (bytesOf (sheetAll c₀ .frames))) sheet-is (g .outs)
+            o : Writing (w .bytes) out out₀ (bytes ++ bytesOf (sheetFrom x J p (w .place + n) c⁺ .frames)) (bytesOf (sheetAll x J p c₀ .frames))
+            o = subst (λ (t : Sheet). Writing (w .bytes) out out₀ (bytesOf (t .frames)) (bytesOf (sheetAll x J p c₀ .frames))) sheet-is (g .outs)
 
-            outs⁺ : Writing (w .bytes + length bytes) (take (w .bytes) out ++ over bytes (drop (w .bytes) out)) out₀ (bytesOf (sheetFrom (w .place + n) c⁺ .frames)) (bytesOf (sheetAll c₀ .frames))
-            outs⁺ = writing-more (w .bytes) out out₀ bytes (bytesOf (sheetFrom (w .place + n) c⁺ .frames)) (bytesOf (sheetAll c₀ .frames)) o (omega (arith, size, g .written, g .outs .same))
+            outs⁺ : Writing (w .bytes + length bytes) (take (w .bytes) out ++ over bytes (drop (w .bytes) out)) out₀ (bytesOf (sheetFrom x J p (w .place + n) c⁺ .frames)) (bytesOf (sheetAll x J p c₀ .frames))
+            outs⁺ = writing-more (w .bytes) out out₀ bytes (bytesOf (sheetFrom x J p (w .place + n) c⁺ .frames)) (bytesOf (sheetAll x J p c₀ .frames)) o (omega (arith, size, bytes-room))
 
-            r : Writing (rowWidth * w .rows) rows rows₀ (row frame ++ rowsOf (sheetFrom (w .place + n) c⁺ .frames)) (rowsOf (sheetAll c₀ .frames))
-            r = subst (λ (t : Sheet). Writing (rowWidth * w .rows) rows rows₀ (rowsOf (t .frames)) (rowsOf (sheetAll c₀ .frames))) sheet-is (g .lines)
+            r : Writing (rowWidth * w .rows) rows rows₀ (row frame ++ rowsOf (sheetFrom x J p (w .place + n) c⁺ .frames)) (rowsOf (sheetAll x J p c₀ .frames))
+            r = subst (λ (t : Sheet). Writing (rowWidth * w .rows) rows rows₀ (rowsOf (t .frames)) (rowsOf (sheetAll x J p c₀ .frames))) sheet-is (g .lines)
 
-            lines⁺ : Writing (rowWidth * (w .rows + 1)) (take (rowWidth * w .rows) rows ++ over (rowBy i (frame .stamp)) (drop (rowWidth * w .rows) rows)) rows₀ (rowsOf (sheetFrom (w .place + n) c⁺ .frames)) (rowsOf (sheetAll c₀ .frames))
+            lines⁺ : Writing (rowWidth * (w .rows + 1)) (take (rowWidth * w .rows) rows ++ over (rowBy i (frame .stamp)) (drop (rowWidth * w .rows) rows)) rows₀ (rowsOf (sheetFrom x J p (w .place + n) c⁺ .frames)) (rowsOf (sheetAll x J p c₀ .frames))
             lines⁺ =
-                subst₂ (λ (k : ℕ) (t : List ℤ). Writing k (take (rowWidth * w .rows) rows ++ over t (drop (rowWidth * w .rows) rows)) rows₀ (rowsOf (sheetFrom (w .place + n) c⁺ .frames)) (rowsOf (sheetAll c₀ .frames)))
+                subst₂ (λ (k : ℕ) (t : List ℤ). Writing k (take (rowWidth * w .rows) rows ++ over t (drop (rowWidth * w .rows) rows)) rows₀ (rowsOf (sheetFrom x J p (w .place + n) c⁺ .frames)) (rowsOf (sheetAll x J p c₀ .frames)))
                 (let e : rowWidth * w .rows + 8 ≡ rowWidth * (w .rows + 1) = omega arith in e) (row-is i frame refl)
-                (writing-more (rowWidth * w .rows) rows rows₀ (row frame) (rowsOf (sheetFrom (w .place + n) c⁺ .frames)) (rowsOf (sheetAll c₀ .frames)) r (omega (arith, g .frames-few, seven, g .lines .same)))
+                (writing-more (rowWidth * w .rows) rows rows₀ (row frame) (rowsOf (sheetFrom x J p (w .place + n) c⁺ .frames)) (rowsOf (sheetAll x J p c₀ .frames)) r row-room)
 
     -- ---- the end
 
     pub record Ended (last : Next) : Type 0 where
-      pub out-is : out ≡ over (bytesOf (sheetAll c₀ .frames)) out₀
-      pub rows-is : rows ≡ over (rowsOf (sheetAll c₀ .frames)) rows₀
-      pub rows-count : w .rows ≡ length (sheetAll c₀ .frames)
-      pub bytes-count : w .bytes ≡ length (bytesOf (sheetAll c₀ .frames))
-      pub lost-count : w .lost ≡ losses cutsAll
-      pub left-is : l′ ≡ remainder cutsAll
+      pub out-is : out ≡ over (bytesOf (sheetAll x J p c₀ .frames)) out₀
+      pub rows-is : rows ≡ over (rowsOf (sheetAll x J p c₀ .frames)) rows₀
+      pub rows-count : w .rows ≡ length (sheetAll x J p c₀ .frames)
+      pub bytes-count : w .bytes ≡ length (bytesOf (sheetAll x J p c₀ .frames))
+      pub lost-count : w .lost ≡ losses (cutsAll x J)
+      pub left-is : l′ ≡ remainder (cutsAll x J)
       pub left-few : length J ≤ w .place + 8190
-      pub timing-is : endTiming last (ltb (w .place) p) (length J - w .place) c ≡ sheetAll c₀ .timing
+      pub timing-is : endTiming last (ltb (w .place) p) (length J - w .place) c ≡ sheetAll x J p c₀ .timing
 
-    module _ (ho : length J ≤ length out₀) (hr : rowWidth * (length J / 7) ≤ length rows₀) where
-      -- nothing more is handed back, and all that is left is kept
-      stops : (last : Next) → sheetFrom (w .place) c .frames ≡ [] → losses (cutsFrom (w .place)) ≡ 0 → remainder (cutsFrom (w .place)) ≡ l′ → length J ≤ w .place + 8190
-          → sheetFrom (w .place) c .timing ≡ endTiming last (ltb (w .place) p) (length J - w .place) c → Ended last
-      stops last fs z k few t =
-          record {
-            out-is = out⁺;
-            rows-is = rows⁺;
-            rows-count = omega (arith, g .count, ap length fs);
-            bytes-count = bytes⁺;
-            lost-count = omega (arith, g .lost-are, z);
-            left-is = sym k ∙ g .left;
-            left-few = few;
-            timing-is = sym t ∙ g .times;
-          }
-        where
-          o : Writing (w .bytes) out out₀ [] (bytesOf (sheetAll c₀ .frames))
-          o = subst (λ (t : List Frame). Writing (w .bytes) out out₀ (bytesOf t) (bytesOf (sheetAll c₀ .frames))) fs (g .outs)
+    -- nothing more is handed back, and all that is left is kept
+    stops : (last : Next) → sheetFrom x J p (w .place) c .frames ≡ [] → losses (cutsFrom x J (w .place)) ≡ 0 → remainder (cutsFrom x J (w .place)) ≡ l′ → length J ≤ w .place + 8190
+        → sheetFrom x J p (w .place) c .timing ≡ endTiming last (ltb (w .place) p) (length J - w .place) c → Ended last
+    stops last fs z k few t =
+        record {
+          out-is = out⁺;
+          rows-is = rows⁺;
+          rows-count = omega (arith, g .count, ap length fs);
+          bytes-count = bytes⁺;
+          lost-count = omega (arith, g .lost-are, z);
+          left-is = sym k ∙ g .left;
+          left-few = few;
+          timing-is = sym t ∙ g .times;
+        }
+      where
+        o : Writing (w .bytes) out out₀ [] (bytesOf (sheetAll x J p c₀ .frames))
+        o = subst (λ (t : List Frame). Writing (w .bytes) out out₀ (bytesOf t) (bytesOf (sheetAll x J p c₀ .frames))) fs (g .outs)
 
-          out⁺ : out ≡ over (bytesOf (sheetAll c₀ .frames)) out₀
-          out⁺ = writing-done (w .bytes) out out₀ (bytesOf (sheetAll c₀ .frames)) (omega (arith, g .written, g .reached, g .outs .same)) o
+        out⁺ : out ≡ over (bytesOf (sheetAll x J p c₀ .frames)) out₀
+        out⁺ = writing-done (w .bytes) out out₀ (bytesOf (sheetAll x J p c₀ .frames)) (omega (arith, g .written, g .reached, g .out-fits, g .outs .same)) o
 
-          rows⁺ : rows ≡ over (rowsOf (sheetAll c₀ .frames)) rows₀
-          rows⁺ =
-              writing-done (rowWidth * w .rows) rows rows₀ (rowsOf (sheetAll c₀ .frames)) (omega (arith, g .frames-few, g .reached, g .lines .same))
-              (subst (λ (t : List Frame). Writing (rowWidth * w .rows) rows rows₀ (rowsOf t) (rowsOf (sheetAll c₀ .frames))) fs (g .lines))
+        rows⁺ : rows ≡ over (rowsOf (sheetAll x J p c₀ .frames)) rows₀
+        rows⁺ =
+            writing-done (rowWidth * w .rows) rows rows₀ (rowsOf (sheetAll x J p c₀ .frames)) (omega (arith, g .frames-few, g .reached, g .rows-fit, g .lines .same))
+            (subst (λ (t : List Frame). Writing (rowWidth * w .rows) rows rows₀ (rowsOf t) (rowsOf (sheetAll x J p c₀ .frames))) fs (g .lines))
 
-          bytes⁺ : w .bytes ≡ length (bytesOf (sheetAll c₀ .frames))
-          bytes⁺ =
-              sym (length-take-le (w .bytes) out (omega (arith, g .written, g .reached, g .outs .same)))
-              ∙ (let e : length (take (w .bytes) out) ≡ length (take (w .bytes) out ++ []) = rw append-nil in e)
-              ∙ ap length (o .split)
+        bytes⁺ : w .bytes ≡ length (bytesOf (sheetAll x J p c₀ .frames))
+        bytes⁺ =
+            sym (length-take-le (w .bytes) out (omega (arith, g .written, g .reached, g .out-fits, g .outs .same)))
+            ∙ (let e : length (take (w .bytes) out) ≡ length (take (w .bytes) out ++ []) = rw append-nil in e)
+            ∙ ap length (o .split)
 
-      -- a frame that runs past the end is kept
-      pub ends-partial : (i : AudioFrameInfo) → headOf x l′ ≡ Read i → w .place + needOf x ≤ length J → needOf x ≤ i .«frame_len» → length J - w .place < i .«frame_len» → Ended (Partial i)
-      ends-partial i h enough long past =
-          stops (Partial i) (ap (λ (cs : List Cut). stampCuts (p - w .place) c cs .frames) cut) (ap losses cut) (ap remainder cut) (omega (arith, length-most x l′ i h))
-          (ap (λ (cs : List Cut). stampCuts (p - w .place) c cs .timing) cut ∙ ap (λ (b : Bool). keep b i c) (early-is p (w .place)))
-        where
-          cut : cutsFrom (w .place) ≡ kept i l′ ∷ []
-          cut = walk-kept (needOf x) (headOf x) l′ i (omega (arith, room′, some-need x)) (omega (arith, room′)) h long (omega (arith, room′))
+    -- a frame that runs past the end is kept
+    pub ends-partial : (i : AudioFrameInfo) → headOf x l′ ≡ Read i → w .place + needOf x ≤ length J → needOf x ≤ i .«frame_len» → length J - w .place < i .«frame_len» → Ended (Partial i)
+    ends-partial i h enough long past =
+        stops (Partial i) (ap (λ (cs : List Cut). stampCuts (p - w .place) c cs .frames) cut) (ap losses cut) (ap remainder cut) (omega (arith, length-most x l′ i h))
+        (ap (λ (cs : List Cut). stampCuts (p - w .place) c cs .timing) cut ∙ ap (λ (b : Bool). keep b i c) (early-is p (w .place)))
+      where
+        cut : cutsFrom x J (w .place) ≡ kept i l′ ∷ []
+        cut = walk-kept (needOf x) (headOf x) l′ i (omega (arith, room′, some-need x)) (omega (arith, room′)) h long (omega (arith, room′))
 
-      -- and so are fewer bytes than a head needs
-      pub ends-short : length J - w .place < needOf x → Ended End
-      unfolding tailTiming
-      ends-short few = go (le-or-lt (length l′) 0)
-        where
-          at-most : length J ≤ w .place + 8190
-          at-most = omega (arith, need-most x)
+    -- and so are fewer bytes than a head needs
+    pub ends-short : length J - w .place < needOf x → Ended End
+    unfolding tailTiming
+    ends-short few = go (le-or-lt (length l′) 0)
+      where
+        at-most : length J ≤ w .place + 8190
+        at-most = omega (arith, need-most x)
 
-          go : (length l′ ≤ 0) ⊎ (0 < length l′) → Ended End
-          go (inl h) =
-              stops End (ap (λ (cs : List Cut). stampCuts (p - w .place) c cs .frames) cut) (ap losses cut) (ap remainder cut ∙ sym none) at-most
-              (ap (λ (cs : List Cut). stampCuts (p - w .place) c cs .timing) cut ∙ ap (λ (m : ℕ). tailTiming m (ltb (w .place) p) c) (let e : 0 ≡ length J - w .place = omega (arith, room′) in e))
-            where
-              none : l′ ≡ []
-              none = nil-of l′ (let e : length l′ ≡ 0 = omega arith in e)
+        go : (length l′ ≤ 0) ⊎ (0 < length l′) → Ended End
+        go (inl h) =
+            stops End (ap (λ (cs : List Cut). stampCuts (p - w .place) c cs .frames) cut) (ap losses cut) (ap remainder cut ∙ sym none) at-most
+            (ap (λ (cs : List Cut). stampCuts (p - w .place) c cs .timing) cut ∙ ap (λ (m : ℕ). tailTiming m (ltb (w .place) p) c) (let e : 0 ≡ length J - w .place = omega (arith, room′) in e))
+          where
+            none : l′ ≡ []
+            none = nil-of l′ (let e : length l′ ≡ 0 = omega arith in e)
 
-              cut : cutsFrom (w .place) ≡ []
-              cut = ap (λ (z : List ℕ). walk (needOf x) (headOf x) z 0) none
-          go (inr h) =
-              stops End (ap (λ (cs : List Cut). stampCuts (p - w .place) c cs .frames) cut) (ap losses cut) (ap remainder cut) at-most
-              (ap (λ (cs : List Cut). stampCuts (p - w .place) c cs .timing) cut
-              ∙ ap (λ (b : Bool). keepTail b c) (early-is p (w .place))
-              ∙ some (length J - w .place) (omega (arith, room′)))
-            where
-              cut : cutsFrom (w .place) ≡ short l′ ∷ []
-              cut = walk-short (needOf x) (headOf x) l′ h (omega (arith, room′))
+            cut : cutsFrom x J (w .place) ≡ []
+            cut = ap (λ (z : List ℕ). walk (needOf x) (headOf x) z 0) none
+        go (inr h) =
+            stops End (ap (λ (cs : List Cut). stampCuts (p - w .place) c cs .frames) cut) (ap losses cut) (ap remainder cut) at-most
+            (ap (λ (cs : List Cut). stampCuts (p - w .place) c cs .timing) cut
+            ∙ ap (λ (b : Bool). keepTail b c) (early-is p (w .place))
+            ∙ some (length J - w .place) (omega (arith, room′)))
+          where
+            cut : cutsFrom x J (w .place) ≡ short l′ ∷ []
+            cut = walk-short (needOf x) (headOf x) l′ h (omega (arith, room′))
 
-              some : (m : ℕ) → 0 < m → keepTail (ltb (w .place) p) c ≡ tailTiming m (ltb (w .place) p) c
-              some zero h = absurd (let no : ⊥ = omega arith in no)
-              some (suc m) h = refl
+            some : (m : ℕ) → 0 < m → keepTail (ltb (w .place) p) c ≡ tailTiming m (ltb (w .place) p) c
+            some zero h = absurd (let no : ⊥ = omega arith in no)
+            some (suc m) h = refl

@@ -6,5 +6,6 @@ pub mod Push
 pub mod Flush
 pub mod Reached
 pub mod Steps
+pub mod Search
 pub mod Demand
 pub mod Cases

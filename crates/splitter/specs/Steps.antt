@@ -97,6 +97,9 @@ pub record UnreadRun (x : AudioSyntax) (J : List ℕ) (at n : ℕ) : Type 0 wher
   pub room : at + n + needOf x ≤ suc (length J)
   pub unread : (k : ℕ) → 0 < k → k < n → Unread (headOf x (drop (at + k) J))
 
+abbrev pub startWalk : Walk
+startWalk = record { place = 0; lost = 0; rows = 0; bytes = 0 }
+
 unfoldable pub lostWalk : Walk → ℕ → Walk
 lostWalk w n = record { place = w .place + n; lost = w .lost + n; rows = w .rows; bytes = w .bytes }
 

@@ -19,9 +19,12 @@ use heads::CodedSyntax;
 use heads::Head;
 ghost use mathlib.Core.Path.{_≡_};
 ghost use mathlib.Core.Bool.{true, _||_};
+ghost use mathlib.Core.List.{_++_};
+ghost use lib.ListN.{take};
 ghost use Rattle.splitter.specs.Answer.{pushAnswer};
 ghost use Rattle.splitter.specs.Push.{push, pushTaken, refusal, event, admits};
-ghost use Rattle.splitter.specs.Steps.{Small, lostWalk, givenWalk, startClock, Entered, admission, Settleable, settled};
+ghost use Rattle.splitter.specs.Search.{Searchable, Searched};
+ghost use Rattle.splitter.specs.Steps.{Small, startWalk, lostWalk, givenWalk, startClock, Entered, admission, Settleable, settled};
 
 // What the search finds.
 pub enum Next {
@@ -47,7 +50,26 @@ pub enum Entry {
     Closed(PushAnswer),
 }
 
+// What a search has found, and how far the push has come then.
+pub struct Found {
+    pub next: Next,
+    pub walk: Walk,
+    pub clock: Clock,
+}
+
 impl Walk {
+    // Nothing is done yet.
+    fn start() -> Walk
+        ensures { λ r. ⌜ r ≡ startWalk ⌝ }
+    {
+        Walk {
+            place: 0,
+            lost: 0,
+            rows: 0,
+            bytes: 0,
+        }
+    }
+
     // So many bytes are lost.
     fn lose(self, n: usize) -> Walk
         requires { ⌜ Small self n ⌝ }
@@ -79,6 +101,46 @@ fn either(a: bool, b: bool) -> bool
     ensures { λ r. ⌜ r ≡ (a || b) ⌝ }
 {
     if a { true } else { b }
+}
+
+// The search over places: to the next frame that is handed back, the kept tail, or the end. What it passes is lost.
+fn search(
+    syntax: AudioSyntax,
+    need: usize,
+    pending: &[u8],
+    carried: usize,
+    payload: &[u8],
+    mut walk: Walk,
+    mut clock: Clock,
+) -> Found
+    requires { ⌜ Searchable syntax need (now pending) carried (now payload) walk ⌝ }
+    ensures { λ r. ⌜ Searched syntax (take carried (now (pending .entry)) ++ now (payload .entry)) carried clock walk r ⌝ }
+{
+    let total = carried + payload.len();
+    let next = loop {
+        let place = walk.place;
+        if total - place < need {
+            break Next::End;
+        }
+        let Head::Read(info) = head_at(syntax, pending, carried, payload, place) else {
+            let n = unread_run(syntax, need, pending, carried, payload, place);
+            walk = walk.lose(n);
+            clock = clock.voided(true);
+            continue;
+        };
+        if info.frame_len >= need {
+            if total - place < info.frame_len {
+                break Next::Partial(info);
+            }
+            let end = place + info.frame_len;
+            if !false_sync(syntax, need, pending, carried, payload, end) {
+                break Next::Frame(info);
+            }
+            clock = clock.voided(true);
+        }
+        walk = walk.lose(1);
+    };
+    Found { next, walk, clock }
 }
 
 impl AudioFrameSplitter {
@@ -127,59 +189,25 @@ impl AudioFrameSplitter {
         let carried = self.pending;
         let total = carried + payload.len();
         let mut clock = self.clock(pts);
-        let mut walk = Walk {
-            place: 0,
-            lost: 0,
-            rows: 0,
-            bytes: 0,
-        };
+        let mut walk = Walk::start();
         let last = loop {
-            let next = loop {
-                let place = walk.place;
-                if total - place < need {
-                    break Next::End;
-                }
-                let Head::Read(info) = head_at(syntax, &pending[..], carried, payload, place) else {
-                    let n = unread_run(syntax, need, &pending[..], carried, payload, place);
-                    walk = walk.lose(n);
-                    clock = clock.voided(true);
-                    continue;
-                };
-                if info.frame_len < need {
-                    walk = walk.lose(1);
-                    continue;
-                }
-                if total - place < info.frame_len {
-                    break Next::Partial(info);
-                }
-                let end = place + info.frame_len;
-                if false_sync(syntax, need, &pending[..], carried, payload, end) {
-                    walk = walk.lose(1);
-                    clock = clock.voided(true);
-                    continue;
-                }
-                break Next::Frame(info);
-            };
+            let found = search(syntax, need, &pending[..], carried, payload, walk, clock);
+            walk = found.walk;
+            clock = found.clock;
+            let next = found.next;
             let Next::Frame(info) = next else {
                 break next;
             };
+            let n = info.frame_len;
             let place = walk.place;
             let at = walk.bytes;
             let row = 8 * walk.rows;
             let stamped = clock.give(place < carried, info);
             let stamp = stamped.pts;
-            copy_frame(
-                &mut out[at..],
-                &pending[..],
-                carried,
-                payload,
-                place,
-                info.frame_len,
-            );
+            copy_frame(&mut out[at..], &pending[..], carried, payload, place, n);
             write_row(&mut rows[row..], info, stamp);
-            let after = stamped.clock;
-            clock = after;
-            walk = walk.give(info.frame_len);
+            clock = stamped.clock;
+            walk = walk.give(n);
         };
         keep_tail(pending, carried, payload, walk.place);
         self.settle(walk, clock, last, total)

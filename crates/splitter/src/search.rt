@@ -3,13 +3,11 @@ use crate::copy::copy_frame;
 use heads::AudioSyntax;
 use heads::Head;
 ghost use mathlib.Core.Path.{_≡_};
-ghost use mathlib.Core.Bool.{_&&_};
 ghost use mathlib.Core.List.{_++_};
-ghost use Prim.Native.Nat.{_+_, _-_, _≤_, _<_, min};
-ghost use lib.Dec.{leb};
+ghost use Prim.Native.Nat.{_+_, _≤_, _<_, min};
 ghost use lib.ListN.{length, take, drop};
 ghost use Rattle.heads.specs.Syntax.{headOf, needOf};
-ghost use Rattle.splitter.specs.Cut.{unread};
+ghost use Rattle.splitter.specs.Search.{noHead};
 ghost use Rattle.splitter.specs.Steps.{UnreadRun};
 
 fn least(x: usize, y: usize) -> usize
@@ -65,8 +63,8 @@ pub fn false_sync(
     payload: &[u8],
     end: usize,
 ) -> bool
-    requires { ⌜ (carried ≤ length (now pending)) × (end ≤ carried + length (now payload)) ⌝ }
-    ensures { λ r. ⌜ r ≡ (leb need (carried + length (now (payload .entry)) - end) && unread (headOf syntax (drop end (take carried (now (pending .entry)) ++ now (payload .entry))))) ⌝ }
+    requires { ⌜ (carried ≤ length (now pending)) × (need ≡ needOf syntax) × (end ≤ carried + length (now payload)) ⌝ }
+    ensures { λ r. ⌜ r ≡ noHead syntax (take carried (now (pending .entry)) ++ now (payload .entry)) end ⌝ }
 {
     if carried + payload.len() - end < need {
         return false;

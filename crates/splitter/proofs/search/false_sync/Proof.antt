@@ -1,11 +1,11 @@
 -- The need is not left; or it is, and the head there reads or not.
-use mathlib.Core.Path.{sym, _∙_}
-use mathlib.Core.List.{_++_}
-use Prim.Native.Nat.{_+_, _-_}
+use mathlib.Core.Path.{_≡_, sym, _∙_}
+use mathlib.Core.List.{List, _++_}
+use Prim.Native.Nat.{ℕ, _+_}
 use native.Mathlib.Omega.{arith}
-use lib.ListN.{length, take, drop}
+use lib.ListN.{length, take}
 use denote.Ref.{now}
-use Rattle.heads.specs.Syntax.{headOf}
+use Rattle.splitter.proofs.Buffers.{joined-length}
 use Rattle.splitter.proofs.Heads.{no-room, head-there, none-there}
 use borrow.Author.Needs.{needs}
 use Rattle.splitter.proofs.search.false_sync.Statement.{statement}
@@ -17,10 +17,17 @@ add-if1 c = search needs
 sub-if1 : tie.Need-sub-if1
 sub-if1 c = search needs
 
+-- the joined bytes, and their length
+abbrev J : tie.Start → List ℕ
+J s = take (s .args .carried) (now (s .args .pending)) ++ now (s .args .payload)
+
+whole : (s : tie.Start) → length (J s) ≡ s .args .carried + length (now (s .args .payload))
+whole s = joined-length (s .args .carried) (now (s .args .pending)) (now (s .args .payload)) (s .pre .0)
+
 returns : tie.Need-returns
 returns c =
-    let s = c .before .before .before .args in
-    no-room (s .need) (s .carried + length (now (s .payload)) - s .end) (headOf (s .syntax) (drop (s .end) (take (s .carried) (now (s .pending)) ++ now (s .payload)))) (omega arith)
+    let s = c .before .before .before in
+    no-room (s .args .syntax) (J s) (s .args .end) (omega (arith, whole s))
 
 head-at-requires : tie.Need-head-at-requires
 head-at-requires c κs = search needs
@@ -33,13 +40,13 @@ enum-told-2 c = search needs
 
 returns-2 : tie.Need-returns-2
 returns-2 c =
-    let s = c .before .before .before .before .before .before .args in
-    head-there (s .need) (s .carried + length (now (s .payload)) - s .end) (headOf (s .syntax) (drop (s .end) (take (s .carried) (now (s .pending)) ++ now (s .payload)))) _ (sym (c .before .before .head-at .ensures) ∙ c .enum-told .given .1)
+    let s = c .before .before .before .before .before .before in
+    head-there (s .args .syntax) (J s) (s .args .end) _ (sym (c .before .before .head-at .ensures) ∙ c .enum-told .given .1)
 
 returns-3 : tie.Need-returns-3
 returns-3 c =
-    let s = c .before .before .before .before .before .before .args in
-    none-there (s .need) (s .carried + length (now (s .payload)) - s .end) (headOf (s .syntax) (drop (s .end) (take (s .carried) (now (s .pending)) ++ now (s .payload)))) (omega arith) _ (sym (c .before .before .head-at .ensures) ∙ c .enum-told2 .given .1)
+    let s = c .before .before .before .before .before .before in
+    none-there (s .args .syntax) (J s) (s .args .end) (omega (arith, whole s)) _ (sym (c .before .before .head-at .ensures) ∙ c .enum-told2 .given .1)
 
 pub false-sync-spec : {M : Type 1} → statement M
 false-sync-spec =
