@@ -18,7 +18,6 @@ use Rattle.heads.specs.Syntax.{headOf, needOf}
 use Rattle.heads.proofs.Promise.{agree, added, need-least, need-most, skipped, skipped-room, skipped-most}
 use Rattle.heads.proofs.Bytes.{bytes-join, bytes-take, bytes-drop}
 use Rattle.heads.specs.declared.info.AudioFrameInfo.{AudioFrameInfo}
-use Rattle.heads.specs.declared.info.Head.{Head}
 use Rattle.heads.specs.declared.info.Head.the-variants.{Read, Refused}
 use Rattle.heads.specs.declared.info.Refusal.{Refusal}
 use Rattle.heads.specs.declared.syntax.AudioSyntax.{AudioSyntax}

@@ -1,27 +1,22 @@
 -- What the search of a push has met, and what a push that has ended hands back: just what the definition says. Assumes nothing.
-use mathlib.Core.Path.{_≡_, refl, sym, _∙_, ap, ap₂, subst}
-use mathlib.Core.Bool.{true, false, _&&_, _||_}
+use mathlib.Core.Path.{_≡_, sym, _∙_, ap, ap₂, subst}
+use mathlib.Core.Bool.{true, _||_}
 use mathlib.Core.List.{List, [], _∷_, _++_}
 use mathlib.Core.Logic.{⊎-elim}
-use Prim.Native.Nat.{ℕ, _+_, _-_, _*_, _/_, _≤_, _<_}
+use Prim.Native.Nat.{ℕ, _+_, _-_, _≤_}
 use native.Mathlib.Omega.{arith}
-use lib.Dec.{ltb, leb}
+use lib.Dec.{ltb}
 use lib.IntN.{ℤ}
 use lib.ListN.{length, take, drop, length-drop}
 use denote.Enum.Declared.{tagOf}
 use types.Run.{OneOf}
-use Rattle.heads.specs.Syntax.{headOf, needOf}
 use Rattle.heads.proofs.Promise.{samples-most}
-use Rattle.heads.specs.declared.info.AudioFrameInfo.{AudioFrameInfo}
-use Rattle.heads.specs.declared.info.Head.{Head}
-use Rattle.heads.specs.declared.info.Head.the-variants.{Read, Refused}
-use Rattle.heads.specs.declared.info.Refusal.{Refusal}
 use Rattle.heads.specs.declared.syntax.AudioSyntax.{AudioSyntax}
-use Rattle.splitter.specs.Cut.{unread, remainder}
+use Rattle.splitter.specs.Cut.{remainder}
 use Rattle.splitter.specs.Answer.{done, pushAnswer}
 use Rattle.splitter.specs.Stamp.{Sheet}
-use Rattle.splitter.specs.Push.{Event, event, rowWidth, over, bytesOf, rowsOf, anyFrame, refusalOf, pushTaken}
-use Rattle.splitter.specs.Steps.{Good, Settleable, settled, startClock, lostWalk, givenWalk, endTiming}
+use Rattle.splitter.specs.Push.{Event, event, over, bytesOf, rowsOf, anyFrame, refusalOf, pushTaken}
+use Rattle.splitter.specs.Steps.{Good, Settleable, settled, startClock, endTiming}
 use Rattle.splitter.specs.Search.{Met}
 use Rattle.splitter.specs.declared.answer.Pushed.{Pushed}
 use Rattle.splitter.specs.declared.timing.Clock.{Clock}
@@ -34,14 +29,11 @@ use Rattle.splitter.proofs.push.Next.{the-type}
 use Rattle.splitter.proofs.Clocks.{good-start, good-more}
 use Rattle.splitter.proofs.Walking.{Going, Ended, ends-partial, ends-short, cutsAll, sheetAll, any-length}
 
--- ---- what a head that was read says
+-- ---- the beginning
 
-pub not-read : {h k : Head} {g : Refusal} → h ≡ k → h ≡ Refused g → unread k ≡ true
-not-read e r = ap unread (sym e ∙ r)
-
-pub good-clock : (s : AudioFrameSplitter) (p : ℕ) (t : Pts) (b o r : ℕ) → refusalOf s p t b o r ≡ 0 → (c : Clock) → c ≡ startClock s t → Good 4294000000 c
+pub good-clock : (s : AudioFrameSplitter) (p : ℕ) (t : Pts) (b o r : ℕ) → refusalOf s p t b o r ≡ 0 → {c : Clock} → c ≡ startClock s t → Good 4294000000 c
 unfolding startClock
-good-clock s p t b o r h c e = rw e (good-start s p t b o r h)
+good-clock s p t b o r h e = rw e (good-start s p t b o r h)
 
 -- ---- the end of the walk
 
@@ -52,26 +44,27 @@ module _ {x : AudioSyntax} {J : List ℕ} {p : ℕ} {c₀ : Clock} {out₀ : Lis
   ended (Partial i) k m = ends-partial g i (m .0) (m .1) (m .2) (m .3)
   ended End k m = ends-short g m
 
-  pub settleable : (s : AudioFrameSplitter) (last : Next) (total : ℕ) → Met x J (w .place) last → total ≡ length J → s .discarded ≤ 4611686018427387904 → Settleable s w c last total
-  settleable s last total m t d =
+  pub settleable : {s : AudioFrameSplitter} {last : Next} {total : ℕ} → Met x J (w .place) last → total ≡ length J → s .discarded ≤ 4611686018427387904 → Settleable s w c last total
+  settleable m t d =
       record {
-        good = good-more (g .good) (omega (arith, g .frames-few, g .reached, g .few));
+        good = good-more (g .good) (omega arith);
         few = λ i e. samples-most x (drop (w .place) J) i ((subst (Met x J (w .place)) e m) .0);
-        reached = omega (arith, g .reached);
-        gone = omega (arith, g .gone, g .reached, g .few);
+        reached = omega arith;
+        gone = omega arith;
         room = d;
       }
 
 -- ---- what a push that has ended hands back
 
-module _ (x : AudioSyntax) (s : AudioFrameSplitter) (pay : List ℕ) (t : Pts) (pend out₀ : List ℕ) (rows₀ : List ℤ) (c₀ : Clock) (start : c₀ ≡ startClock s t) where
-  abbrev e : Event
-  e = event pay t pend out₀ rows₀
-
+module _ (s : AudioFrameSplitter) (pay : List ℕ) (t : Pts) (pend : List ℕ) where
   abbrev J : List ℕ
   J = take (s .pending) pend ++ pay
 
-  module _ {c : Clock} {w : Walk} {out : List ℕ} {rows : List ℤ} (g : Going x J (s .pending) c₀ out₀ rows₀ c w out rows) (last : Next) (d : Ended g last) (total : ℕ) (size : total ≡ length J) where
+  module _ {x : AudioSyntax} {c₀ : Clock} {out₀ : List ℕ} {rows₀ : List ℤ} {c : Clock} {w : Walk} {out : List ℕ} {rows : List ℤ} (start : c₀ ≡ startClock s t)
+      (g : Going x J (s .pending) c₀ out₀ rows₀ c w out rows) {last : Next} (d : Ended g last) {total : ℕ} (size : total ≡ length J) where
+    abbrev e : Event
+    e = event pay t pend out₀ rows₀
+
     -- the definition's frames, with the clock as the code made it
     frames-are : sheetAll x J (s .pending) c₀ ≡ sheetAll x J (s .pending) (record { «new_pts» = t; timing = s .timing })
     unfolding startClock

@@ -16,7 +16,8 @@ use borrow.Rule.Slice.PartMut.{putMid}
 use Rattle.heads.specs.Syntax.{headOf, needOf}
 use Rattle.heads.proofs.Promise.{need-least, need-most, length-most, samples-most, whole-length}
 use Rattle.heads.specs.declared.info.AudioFrameInfo.{AudioFrameInfo}
-use Rattle.heads.specs.declared.info.Head.the-variants.{Read}
+use Rattle.heads.specs.declared.info.Head.the-variants.{Read, Refused}
+use Rattle.heads.specs.declared.info.Refusal.{Refusal}
 use Rattle.heads.specs.declared.syntax.AudioSyntax.{AudioSyntax}
 use Rattle.splitter.specs.Cut.{Cut, lost, given, kept, short, unread, walk, remainder, losses}
 use Rattle.splitter.specs.Stamp.{Frame, Sheet, ahead, early, give, keep, keepTail, voided, stampCuts}
@@ -126,9 +127,9 @@ module _ {x : AudioSyntax} {J : List ℕ} {p : ℕ} where
         }
 
     -- a run of places at which no head reads
-    module _ {n : ℕ} (u : unread (headOf x l) ≡ true) (r : UnreadRun x J (w .place) n) where
+    module _ {n : ℕ} {g : Refusal} (u : headOf x l ≡ Refused g) (r : UnreadRun x J (w .place) n) where
       silent : Silent (needOf x) (headOf x) l n
-      silent zero h = (omega (arith, room, r .room), u)
+      silent zero h = (omega (arith, room, r .room), ap unread u)
       silent (suc j) h = (
         let e : length (drop (suc j) l) ≡ length l - suc j = length-drop (suc j) l in omega (arith, e, room, r .room),
         ap (λ (k : List ℕ). unread (headOf x k)) (drop-drop (suc j) (w .place) J)
@@ -159,7 +160,7 @@ module _ {x : AudioSyntax} {J : List ℕ} {p : ℕ} where
         step : cutsFrom x J (w .place) ≡ lost v (getD l 0 0) ∷ cutsFrom x J (w .place + 1)
         step = e ∙ ap (λ (k : List ℕ). lost v (getD l 0 0) ∷ walk (needOf x) (headOf x) k 0) (drop-drop 1 (w .place) J)
 
-    module _ (i : AudioFrameInfo) (h : headOf x l ≡ Read i) (enough : w .place + needOf x ≤ length J) where
+    module _ {i : AudioFrameInfo} (h : headOf x l ≡ Read i) (enough : w .place + needOf x ≤ length J) where
       -- a length below the need
       pub slid-below : i .«frame_len» < needOf x → Slid x J p c₀ w₀ c (lostWalk w 1)
       slid-below k =

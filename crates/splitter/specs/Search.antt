@@ -1,5 +1,5 @@
--- What the search of a push promises. It goes over the places of J, the joined bytes, of which p were pending: from where it begins to the next
--- frame that is handed back, the kept tail or the end. All bytes that it passes are lost.
+-- What one search of a push promises: it goes over the places of J, the joined bytes, of which p were pending, from where it begins to the
+-- next frame that is handed back, the kept tail or the end, and loses all that it passes. Walk and clock say how far the push has come.
 use mathlib.Core.Path.{_≡_}
 use mathlib.Core.Bool.{Bool, false, _&&_}
 use mathlib.Core.List.{List}
@@ -18,19 +18,19 @@ use Rattle.splitter.specs.declared.push.Next.the-variants.{Frame, Partia
 use Rattle.splitter.specs.declared.push.Walk.{Walk}
 use Rattle.splitter.specs.declared.push.Found.{Found}
 
--- what becomes of the bytes from a place on
+-- the cuts from a place on
 abbrev pub cutsFrom : AudioSyntax → List ℕ → ℕ → List Cut
 cutsFrom x J at = walk (needOf x) (headOf x) (drop at J) 0
 
--- and their frames with their stamps, by a clock
+-- their frames with the stamps that the clock gives them, and the timing after them
 abbrev pub sheetFrom : AudioSyntax → List ℕ → ℕ → ℕ → Clock → Sheet
 sheetFrom x J p at c = stampCuts (p - at) c (cutsFrom x J at)
 
--- the header need is left at that place, and no head reads there: a frame that ends there is none
+-- the header need is left at a place, and no head reads there: a frame that would end there is none
 abbrev pub noHead : AudioSyntax → List ℕ → ℕ → Bool
 noHead x J at = leb (needOf x) (length J - at) && unread (headOf x (drop at J))
 
--- what a search may count on
+-- what a search may count on: all p pending bytes are lent, and no number of the walk is above the greatest length of the joined bytes
 pub record Searchable (x : AudioSyntax) (need : ℕ) (pending : List ℕ) (p : ℕ) (payload : List ℕ) (w : Walk) : Type 0 where
   pub need-is : need ≡ needOf x
   pub pending-all : p ≤ length pending
@@ -38,7 +38,8 @@ pub record Searchable (x : AudioSyntax) (need : ℕ) (pending : List ℕ) (p : �
   pub reached : w .place ≤ p + length payload
   pub small : Small w 0
 
--- From clock c₀ and place w₀ to c and w: the bytes between are lost, and what becomes of those from w on is all that becomes of those from w₀ on.
+-- From walk w₀ and clock c₀ to walk w and clock c: the bytes between are lost and nothing is given. Frames, timing and remainder from the place
+-- reached on are those from the first place on, so are the losses once those between are counted, and a bound of the clock's numbers stays one.
 pub record Slid (x : AudioSyntax) (J : List ℕ) (p : ℕ) (c₀ : Clock) (w₀ : Walk) (c : Clock) (w : Walk) : Type 0 where
   pub reached : w .place ≤ length J
   pub onward : w₀ .place ≤ w .place
@@ -50,7 +51,7 @@ pub record Slid (x : AudioSyntax) (J : List ℕ) (p : ℕ) (c₀ : Clock) (w₀ 
   pub left : remainder (cutsFrom x J (w₀ .place)) ≡ remainder (cutsFrom x J (w .place))
   pub good : (n : ℕ) → Good n c₀ → Good n c
 
--- what stands at the place reached: a whole frame that is not followed by what is no head, a frame that runs past the end, or less than a head needs
+-- what stands at a place: a whole frame not followed by what is no head, a frame that runs past the end, or fewer bytes than a head needs
 abbrev pub Met : AudioSyntax → List ℕ → ℕ → Next → Type 0
 Met x J at (Frame i) =
     (headOf x (drop at J) ≡ Read i) × (needOf x ≤ i .«frame_len») × (at + i .«frame_len» ≤ length J) × (noHead x J (at + i .«frame_len») ≡ false)
@@ -58,6 +59,7 @@ Met x J at (Partial i) =
     (headOf x (drop at J) ≡ Read i) × (at + needOf x ≤ length J) × (needOf x ≤ i .«frame_len») × (length J - at < i .«frame_len»)
 Met x J at End = length J - at < needOf x
 
+-- walk and clock at the end of a search, and what it found there
 pub record Searched (x : AudioSyntax) (J : List ℕ) (p : ℕ) (c₀ : Clock) (w₀ : Walk) (r : Found) : Type 0 where
   pub slid : Slid x J p c₀ w₀ (r .clock) (r .walk)
   pub met : Met x J (r .walk .place) (r .next)

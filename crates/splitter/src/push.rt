@@ -138,6 +138,7 @@ fn search(
             }
             clock = clock.voided(true);
         }
+        // No true frame: its length is below the need, or no head follows it.
         walk = walk.lose(1);
     };
     Found { next, walk, clock }

@@ -2,7 +2,7 @@
 -- less at each step.
 use borrow.Author.Needs.{needs}
 use borrow.Author.Tests.{not-true, not-false}
-use mathlib.Core.Path.{_≡_, sym, _∙_, ap, subst₂}
+use mathlib.Core.Path.{_≡_, sym, _∙_, ap}
 use mathlib.Core.List.{List, _++_}
 use mathlib.Core.Logic.{⊎-elim}
 use Prim.Native.Nat.{ℕ, _+_, _-_, _≤_}
@@ -18,7 +18,6 @@ use Rattle.splitter.specs.Search.{Slid}
 use Rattle.splitter.specs.declared.push.Walk.{Walk}
 use Rattle.splitter.proofs.Buffers.{joined-length}
 use Rattle.splitter.proofs.Walking.{slid-none, slid-small, slid-run, slid-below, slid-false}
-use Rattle.splitter.proofs.Settling.{not-read}
 use Rattle.splitter.proofs.push.search.Statement.{statement}
 use Rattle.splitter.proofs.push.search.Tie as tie
 
@@ -30,66 +29,52 @@ abbrev μ-loop : tie.MeasureT-loop
 
 -- ---- what is known from the start
 
-abbrev S : Type 0
-S = tie.Start Inv-loop μ-loop
-
-abbrev J : S → List ℕ
+abbrev J : tie.Start Inv-loop μ-loop → List ℕ
 J s = take (s .args .carried) (now (s .args .pending)) ++ now (s .args .payload)
 
-whole : (s : S) → length (J s) ≡ s .args .carried + length (now (s .args .payload))
+whole : (s : tie.Start Inv-loop μ-loop) → length (J s) ≡ s .args .carried + length (now (s .args .payload))
 whole s = joined-length (s .args .carried) (now (s .args .pending)) (now (s .args .payload)) (s .pre .pending-all)
 
 -- ---- where the search stands
 
-abbrev At : Type 0
-At = tie.At-loop Inv-loop μ-loop
-
-abbrev start : At → S
+abbrev start : tie.At-loop Inv-loop μ-loop → tie.Start Inv-loop μ-loop
 start h = h .before .before .before
 
-few-lost : (h : At) (n : ℕ) → h .loop .walk .place + n ≤ length (J (start h)) → Small (h .loop .walk) n
-few-lost h n k = slid-small (h .loop .inv) (start h .pre .small) (omega (arith, whole (start h), start h .pre .joined-few)) k
+few-lost : (h : tie.At-loop Inv-loop μ-loop) (n : ℕ) → h .loop .walk .place + n ≤ length (J (start h)) → Small (h .loop .walk) n
+few-lost h n k = slid-small (h .loop .inv) (start h .pre .small) (omega (arith, whole (start h))) k
 
 -- the header need is left
 enough : (c : tie.Else1 Inv-loop μ-loop) → c .before .loop .walk .place + needOf (start (c .before) .args .syntax) ≤ length (J (start (c .before)))
-enough c = omega (arith, c .if1 .left, start (c .before) .pre .need-is, c .before .loop .inv .reached, whole (start (c .before)))
+enough c = omega (arith, whole (start (c .before)))
 
 -- ---- a head that reads
 
-abbrev Reading : Type 0
-Reading = tie.After-struct-known Inv-loop μ-loop
-
-abbrev at : Reading → At
+abbrev at : tie.After-struct-known Inv-loop μ-loop → tie.At-loop Inv-loop μ-loop
 at c = c .before .before .before .before .before .before
 
-abbrev info : Reading → AudioFrameInfo
+abbrev info : tie.After-struct-known Inv-loop μ-loop → AudioFrameInfo
 info c = c .before .before .info .given .0 .0
 
-reads : (c : Reading) → headOf (start (at c) .args .syntax) (drop (at c .loop .walk .place) (J (start (at c)))) ≡ Read (info c)
+reads : (c : tie.After-struct-known Inv-loop μ-loop) → headOf (start (at c) .args .syntax) (drop (at c .loop .walk .place) (J (start (at c)))) ≡ Read (info c)
 reads c = sym (c .before .before .before .before .head-at .ensures) ∙ c .before .before .info .given .1
-
-one-left : (c : Reading) → at c .loop .walk .place + 1 ≤ length (J (start (at c)))
-one-left c = omega (arith, enough (c .before .before .before .before .before), need-least (start (at c) .args .syntax))
 
 -- the frame is whole
 inside : (c : tie.Else3 Inv-loop μ-loop) → at (c .before .before .before) .loop .walk .place + info (c .before .before .before) .«frame_len» ≤ length (J (start (at (c .before .before .before))))
-inside c =
-    let h = at (c .before .before .before) in
-    omega (arith, c .if3 .left, h .loop .inv .reached, whole (start h))
+inside c = omega (arith, whole (start (at (c .before .before .before))))
 
 -- ---- the needs
 
 add-total : tie.Need-add-total Inv-loop μ-loop
-add-total c = omega (arith, c .before .before .pre .joined-few)
+add-total c = search needs
 
 loop-holds : tie.Need-loop-holds Inv-loop μ-loop
-loop-holds c = slid-none (omega (arith, c .before .before .pre .reached, whole (c .before .before)))
+loop-holds c = slid-none (omega (arith, whole (c .before .before)))
 
 sub-if1 : tie.Need-sub-if1 Inv-loop μ-loop
-sub-if1 c = omega (arith, c .loop .inv .reached, whole (start c))
+sub-if1 c = omega (arith, whole (start c))
 
 head-at-requires : tie.Need-head-at-requires Inv-loop μ-loop
-head-at-requires c κs = (start (c .before) .pre .pending-all, omega (arith, c .before .loop .inv .reached, whole (start (c .before))))
+head-at-requires c κs = (start (c .before) .pre .pending-all, omega (arith, whole (start (c .before))))
 
 enum-known-info : tie.Need-enum-known-info Inv-loop μ-loop
 enum-known-info c = search needs
@@ -99,14 +84,13 @@ enum-told c = search needs
 
 unread-run-requires : tie.Need-unread-run-requires Inv-loop μ-loop
 unread-run-requires c κs =
-    let e = c .before .before .before in
-    let s = start (e .before) in
-    (s .pre .pending-all, s .pre .need-is, omega (arith, enough e, s .pre .need-is, whole s))
+    let s = start (c .before .before .before .before) in
+    (s .pre .pending-all, s .pre .need-is, omega (arith, enough (c .before .before .before), whole s))
 
 lose-requires : tie.Need-lose-requires Inv-loop μ-loop
 lose-requires c κs =
     let h = c .before .before .before .before .before in
-    few-lost h (c .unread-run .result) (omega (arith, c .unread-run .ensures .room, need-least (start h .args .syntax)))
+    few-lost h (c .unread-run .result) (omega (arith, need-least (start h .args .syntax)))
 
 voided-requires : tie.Need-voided-requires Inv-loop μ-loop
 voided-requires c κs = search needs
@@ -115,18 +99,15 @@ loop-less : tie.Need-loop-less Inv-loop μ-loop
 unfolding lostWalk
 loop-less c =
     let s = start (c .before .before .before .before .before .before .before) in
-    let u = c .before .before .unread-run .ensures in
-    omega (arith, ap (λ (w : Walk). w .place) (c .before .lose .ensures), u .some, u .room, need-least (s .args .syntax), whole s)
+    omega (arith, ap (λ (w : Walk). w .place) (c .before .lose .ensures), need-least (s .args .syntax), whole s)
 
 loop-again : tie.Need-loop-again Inv-loop μ-loop
 loop-again c =
-    let h = c .before .before .before .before .before .before .before in
-    let s = start h in
-    subst₂ (Slid (s .args .syntax) (J s) (s .args .carried) (s .args .clock) (s .args .walk)) (sym (c .voided .ensures)) (sym (c .before .lose .ensures))
-    (slid-run (h .loop .inv) (not-read (c .before .before .before .before .before .head-at .ensures) (c .before .before .before .enum-told .given .1)) (c .before .before .unread-run .ensures))
+    rw (c .voided .ensures, c .before .lose .ensures)
+    (slid-run (c .before .before .before .before .before .before .before .loop .inv) (sym (c .before .before .before .before .before .head-at .ensures) ∙ c .before .before .before .enum-told .given .1) (c .before .before .unread-run .ensures))
 
 sub-if3 : tie.Need-sub-if3 Inv-loop μ-loop
-sub-if3 c = omega (arith, at (c .before) .loop .inv .reached, whole (start (at (c .before))))
+sub-if3 c = omega (arith, whole (start (at (c .before))))
 
 add-end : tie.Need-add-end Inv-loop μ-loop
 add-end c = omega (arith, inside (c .before), whole (start (at (c .before .before .before .before))))
@@ -140,48 +121,40 @@ voided-requires-2 : tie.Need-voided-requires-2 Inv-loop μ-loop
 voided-requires-2 c κs = search needs
 
 lose-requires-2 : tie.Need-lose-requires-2 Inv-loop μ-loop
-lose-requires-2 c κs = few-lost (at (c .before)) 1 (one-left (c .before))
+lose-requires-2 c κs =
+    let d = c .before in
+    few-lost (at d) 1 (omega (arith, enough (d .before .before .before .before .before), need-least (start (at d) .args .syntax)))
 
 loop-less-2 : tie.Need-loop-less-2 Inv-loop μ-loop
 unfolding lostWalk
-loop-less-2 c = omega (arith, ap (λ (w : Walk). w .place) (c .lose2 .ensures), one-left (c .before .before), whole (start (at (c .before .before))))
+loop-less-2 c =
+    let s = start (at (c .before .before)) in
+    omega (arith, ap (λ (w : Walk). w .place) (c .lose2 .ensures), need-least (s .args .syntax), whole s)
 
 loop-again-2 : tie.Need-loop-again-2 Inv-loop μ-loop
 loop-again-2 c =
     let d = c .before .before in
-    let h = at d in
-    let s = start h in
-    let n = s .pre .need-is in
-    let e = enough (d .before .before .before .before .before) in
-    let S = Slid (s .args .syntax) (J s) (s .args .carried) (s .args .clock) (s .args .walk) in
-    ⊎-elim
-    (λ w. subst₂ S (sym (w .7 ∙ w .6 .ensures)) (sym (c .lose2 .ensures))
-    (slid-false (h .loop .inv) (info d) (reads d) e (omega (arith, w .0 .taken, n)) (omega (arith, w .2 .left, h .loop .inv .reached, whole s)) (sym (w .4 .ensures) ∙ not-false (w .4 .result) (w .5 .left))))
-    (λ w. subst₂ S (sym (w .1)) (sym (c .lose2 .ensures)) (slid-below (h .loop .inv) (info d) (reads d) e (omega (arith, w .0 .left, n))))
-    (c .before .if2 .came)
+    let s = start (at d) in
+    rw (c .lose2 .ensures)
+    (⊎-elim
+    (λ w. rw (w .7 ∙ w .6 .ensures)
+    (slid-false (at d .loop .inv) (reads d) (enough (d .before .before .before .before .before)) (omega (arith, w .0 .taken, s .pre .need-is)) (omega (arith, w .2 .left, at d .loop .inv .reached, whole s)) (sym (w .4 .ensures) ∙ not-false (w .4 .result) (w .5 .left))))
+    (λ w. rw (w .1) (slid-below (at d .loop .inv) (reads d) (enough (d .before .before .before .before .before)) (omega (arith, s .pre .need-is))))
+    (c .before .if2 .came))
 
 returns : tie.Need-returns Inv-loop μ-loop
-returns c =
-    let s = start (c .before) in
-    record { slid = c .before .loop .inv; met = omega (arith, c .if1 .taken, s .pre .need-is, whole s) }
+returns c = record { slid = c .before .loop .inv; met = omega (arith, whole (start (c .before))) }
 
 returns-2 : tie.Need-returns-2 Inv-loop μ-loop
 returns-2 c =
     let d = c .before .before .before in
-    let s = start (at d) in
-    record {
-      slid = at d .loop .inv;
-      met = (reads d, enough (d .before .before .before .before .before), omega (arith, c .before .before .if2 .taken, s .pre .need-is), omega (arith, c .if3 .taken, whole s));
-    }
+    record { slid = at d .loop .inv; met = (reads d, enough (d .before .before .before .before .before), omega arith, omega (arith, whole (start (at d)))) }
 
 returns-3 : tie.Need-returns-3 Inv-loop μ-loop
 returns-3 c =
-    let e = c .before .before .before in
-    let d = e .before .before .before in
-    record {
-      slid = at d .loop .inv;
-      met = (reads d, omega (arith, e .before .before .if2 .taken, start (at d) .pre .need-is), inside e, sym (c .before .false-sync .ensures) ∙ not-true (c .before .false-sync .result) (c .if4 .taken));
-    }
+    let d = c .before .before .before .before .before .before in
+    let f = c .before .false-sync in
+    record { slid = at d .loop .inv; met = (reads d, omega (arith, c .before .before .before .before .before .if2 .taken, start (at d) .pre .need-is), inside (c .before .before .before), sym (f .ensures) ∙ not-true (f .result) (c .if4 .taken)) }
 
 pub search-spec : {M : Type 1} → statement M
 search-spec =

@@ -1,29 +1,20 @@
 -- Each search goes on along the walk, and what is handed back is the front of what the whole walk hands back; so where the walk ends all of
 -- it has been written.
 use borrow.Author.Needs.{needs}
-use mathlib.Core.Path.{_≡_, sym, _∙_, ap, subst, subst₂}
-use mathlib.Core.List.{List, [], _∷_, _++_}
-use mathlib.Core.Logic.{⊎-elim}
-use Prim.Native.Nat.{ℕ, _+_, _-_, _*_, _/_, _≤_}
+use mathlib.Core.Path.{_≡_, sym, ap, subst}
+use mathlib.Core.List.{List, _++_}
+use Prim.Native.Nat.{ℕ, _+_, _-_, _*_, _≤_}
 use native.Mathlib.Omega.{arith}
-use lib.Dec.{ltb}
-use lib.ListN.{length, take, drop, length-drop, length-take}
+use lib.ListN.{length, take, length-drop, length-take}
 use denote.Ref.{now}
-use denote.Enum.Declared.{tagOf}
-use types.Run.{OneOf}
-use borrow.Rule.Slice.PartMut.{putMid}
 use Rattle.heads.proofs.Promise.{need-least, length-most, samples-most}
 use Rattle.heads.specs.declared.info.AudioFrameInfo.{AudioFrameInfo}
-use Rattle.splitter.proofs.push.Next.{the-type}
-use Rattle.splitter.specs.Push.{over, rowWidth}
+use Rattle.splitter.specs.Push.{rowWidth}
 use Rattle.splitter.specs.Search.{Met}
-use Rattle.splitter.specs.Steps.{rowBy, givenWalk}
-use Rattle.splitter.specs.declared.timing.Clock.{Clock}
-use Rattle.splitter.specs.declared.timing.Stamped.{Stamped}
-use Rattle.splitter.specs.declared.push.Next.{Next}
-use Rattle.splitter.specs.declared.push.Next.the-variants.{Frame, Partial, End}
+use Rattle.splitter.specs.Steps.{givenWalk}
+use Rattle.splitter.specs.declared.push.Next.the-variants.{Frame}
 use Rattle.splitter.specs.declared.push.Walk.{Walk}
-use Rattle.splitter.proofs.Buffers.{joined-length, write-after}
+use Rattle.splitter.proofs.Buffers.{joined-length}
 use Rattle.splitter.proofs.Clocks.{Fine, fine, good-more}
 use Rattle.splitter.proofs.Walking.{Going, Ended, going-first, going-slid, going-small, going-given, bytes-room, row-room}
 use Rattle.splitter.proofs.Settling.{good-clock, ended, settleable, handed-back}
@@ -40,37 +31,31 @@ abbrev μ-loop : tie.MeasureT-loop
 
 -- ---- what is known from the start
 
-abbrev S : Type 0
-S = tie.Start Inv-loop μ-loop
-
-abbrev J : S → List ℕ
+abbrev J : tie.Start Inv-loop μ-loop → List ℕ
 J s = take (s .args .self .pending) (now (s .args .pending)) ++ now (s .args .payload)
 
-ok : (s : S) → Fine (s .args .self) (length (now (s .args .payload))) (length (now (s .args .pending))) (length (now (s .args .out))) (length (now (s .args .rows)))
+ok : (s : tie.Start Inv-loop μ-loop) → Fine (s .args .self) (length (now (s .args .payload))) (length (now (s .args .pending))) (length (now (s .args .out))) (length (now (s .args .rows)))
 ok s = fine (s .args .self) (length (now (s .args .payload))) (s .args .pts) (length (now (s .args .pending))) (length (now (s .args .out))) (length (now (s .args .rows))) (s .pre)
 
-whole : (s : S) → length (J s) ≡ s .args .self .pending + length (now (s .args .payload))
+whole : (s : tie.Start Inv-loop μ-loop) → length (J s) ≡ s .args .self .pending + length (now (s .args .payload))
 whole s = joined-length (s .args .self .pending) (now (s .args .pending)) (now (s .args .payload)) (omega (arith, ok s))
 
 -- ---- after a search
 
-abbrev Sought : Type 0
-Sought = tie.After-search Inv-loop μ-loop
-
-abbrev at : Sought → tie.At-loop Inv-loop μ-loop
+abbrev at : tie.After-search Inv-loop μ-loop → tie.At-loop Inv-loop μ-loop
 at a = a .before .before
 
-abbrev start : Sought → S
+abbrev start : tie.After-search Inv-loop μ-loop → tie.Start Inv-loop μ-loop
 start a = at a .before .before .before .before .before .before .before
 
-going : (a : Sought)
+going : (a : tie.After-search Inv-loop μ-loop)
     → Going (start a .args .syntax) (J (start a)) (start a .args .self .pending) (at a .before .before .clock .result) (now (start a .args .out)) (now (start a .args .rows))
     (a .search .result .clock) (a .search .result .walk) (at a .loop .out) (at a .loop .rows)
 going a = going-slid (at a .loop .inv) (a .search .ensures .slid)
 
 -- ---- a frame is found
 
-abbrev sought : tie.After-next Inv-loop μ-loop → Sought
+abbrev sought : tie.After-next Inv-loop μ-loop → tie.After-search Inv-loop μ-loop
 sought c = c .before .before .before .before
 
 abbrev info : tie.After-next Inv-loop μ-loop → AudioFrameInfo
@@ -112,7 +97,7 @@ loop-holds c =
     let s = c .before .before .before .before .before .before in
     rw (c .start .ensures)
     (going-first (omega (arith, whole s, ok s)) (omega (arith, whole s, ok s)) (rw (whole s) (ok s .rows-room))
-    (good-clock (s .args .self) (length (now (s .args .payload))) (s .args .pts) (length (now (s .args .pending))) (length (now (s .args .out))) (length (now (s .args .rows))) (s .pre) (c .before .clock .result) (c .before .clock .ensures)))
+    (good-clock (s .args .self) (length (now (s .args .payload))) (s .args .pts) (length (now (s .args .pending))) (length (now (s .args .out))) (length (now (s .args .rows))) (s .pre) (c .before .clock .ensures)))
 
 search-requires : tie.Need-search-requires Inv-loop μ-loop
 search-requires c κs =
@@ -179,15 +164,16 @@ loop-less : tie.Need-loop-less Inv-loop μ-loop
 unfolding givenWalk
 loop-less c =
     let d = c .before .before .before .before .before .before .before .before .before .before .before .before .before in
-    let s = start (sought d) in
     let m = framed d in
+    let s = start (sought d) in
     omega (arith, ap (λ (w : Walk). w .place) (c .give2 .ensures), m .1, m .2, need-least (s .args .syntax), whole s, sought d .search .ensures .slid .onward)
 
 loop-again : tie.Need-loop-again Inv-loop μ-loop
 loop-again c =
     let d = c .before .before .before .before .before .before .before .before .before .before .before .before .before in
     let g = c .before .before .before .before .before .before .before .before .before .before .give .ensures in
-    rw (c .give2 .ensures, g) (going-given (going (sought d)) (info d) (framed d) (c .before .before .before .before .before .before .before .copy-frame .ensures) (rw g at (c .before .before .before .write-row .ensures)))
+    rw (c .give2 .ensures, g)
+    (going-given (going (sought d)) (info d) (framed d) (c .before .before .before .before .before .before .before .copy-frame .ensures) (rw g at (c .before .before .before .write-row .ensures)))
 
 keep-tail-requires : tie.Need-keep-tail-requires Inv-loop μ-loop
 keep-tail-requires c κs =
@@ -198,8 +184,7 @@ keep-tail-requires c κs =
 settle-requires : tie.Need-settle-requires Inv-loop μ-loop
 settle-requires c κs =
     let a = c .before .before .before .before .before .before .before in
-    let s = start a in
-    settleable (going a) (s .args .self) (a .search .result .next) (s .args .self .pending + length (now (s .args .payload))) (a .search .ensures .met) (sym (whole s)) (ok s .discarded-few)
+    settleable (going a) (a .search .ensures .met) (sym (whole (start a))) (ok (start a) .discarded-few)
 
 same-length : tie.Need-same-length Inv-loop μ-loop
 same-length c = search needs
@@ -214,9 +199,8 @@ returns : tie.Need-returns Inv-loop μ-loop
 returns c =
     let a = c .before .before .before .before .before .before .before .before in
     let s = start a in
-    let k = at a .before .before .clock in
-    handed-back (s .args .syntax) (s .args .self) (now (s .args .payload)) (s .args .pts) (now (s .args .pending)) (now (s .args .out)) (now (s .args .rows)) (k .result) (k .ensures)
-    (going a) (a .search .result .next) (over-all (c .before .before .before .before .before)) (s .args .self .pending + length (now (s .args .payload))) (sym (whole s)) (c .settle .ensures) (c .before .before .before .keep-tail .ensures)
+    handed-back (s .args .self) (now (s .args .payload)) (s .args .pts) (now (s .args .pending)) (at a .before .before .clock .ensures) (going a) (over-all (c .before .before .before .before .before)) (sym (whole s))
+    (c .settle .ensures) (c .before .before .before .keep-tail .ensures)
 
 pub push-taken-spec : {M : Type 1} → statement M
 push-taken-spec =
