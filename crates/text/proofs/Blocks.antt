@@ -1,0 +1,92 @@
+-- Texts that are put one behind the other, and the digits of a number. Assumes nothing.
+use mathlib.Core.Path.{_≡_, refl, sym, _∙_, ap}
+use mathlib.Core.Bool.{true}
+use mathlib.Core.List.{List, [], _∷_, _++_}
+use Prim.Native.Nat.{ℕ, zero, suc, _+_, _-_, _/_, _%_, _^_, _≤_, _<_}
+use native.Mathlib.Numerals.{add-one}
+use native.Mathlib.Nat.{not-suc-le-zero}
+use native.Mathlib.Omega.{arith}
+use lib.ListN.{length, getD, take, set}
+use lib.Seq.{take-suc}
+use borrow.Author.Tests.{lt-ltb, le-ltb}
+use Rattle.io.specs.Digits.{Fewest, digits as ioDigits}
+use Rattle.text.specs.Output.{nextPlace, lenAfter, blockAfter, Put, Written, digits, decimal}
+use Rattle.text.specs.declared.output.Output.{Output}
+
+-- ---- one byte
+
+place-within : (len : ℕ) → len < 8192 → nextPlace len ≡ len
+unfolding nextPlace
+place-within len h = rw (lt-ltb len 8192 h)
+
+place-full : (len : ℕ) → 8192 ≤ len → nextPlace len ≡ 0
+unfolding nextPlace
+place-full len h = rw (le-ltb len 8192 h)
+
+pub put-within : (byte : ℕ) (output : Output) (block : List ℕ) → output .len < 8192
+    → Put (byte ∷ []) output (record { len = output .len + 1; failed = output .failed }) block (set block (output .len) byte)
+put-within byte output block h = record {
+  len = rw (place-within (output .len) h);
+  block = rw (place-within (output .len) h);
+  failed = λ e. e;
+}
+
+pub put-full : (byte : ℕ) (output written : Output) (block : List ℕ) → 8192 ≤ output .len → Written output written
+    → Put (byte ∷ []) output (record { len = 1; failed = written .failed }) block (set block 0 byte)
+put-full byte output written block h w = record {
+  len = rw (place-full (output .len) h);
+  block = rw (place-full (output .len) h);
+  failed = w .failed;
+}
+
+-- ---- a text
+
+len-append : (s t : List ℕ) (len : ℕ) → lenAfter (s ++ t) len ≡ lenAfter t (lenAfter s len)
+len-append [] t len = refl
+len-append (b ∷ s) t len = len-append s t (nextPlace len + 1)
+
+block-append : (s t : List ℕ) (len : ℕ) (block : List ℕ) → blockAfter (s ++ t) len block ≡ blockAfter t (lenAfter s len) (blockAfter s len block)
+block-append [] t len block = refl
+block-append (b ∷ s) t len block = block-append s t (nextPlace len + 1) (set block (nextPlace len) b)
+
+pub put-none : (output : Output) (block : List ℕ) → Put [] output output block block
+put-none output block = record { len = refl; block = refl; failed = λ e. e }
+
+pub put-both : {s t : List ℕ} {a b c : Output} {first second third : List ℕ} → Put s a b first second → Put t b c second third → Put (s ++ t) a c first third
+put-both {s} {t} {a} {b} {c} {first} {second} {third} p q = record {
+  len = q .len ∙ ap (lenAfter t) (p .len) ∙ sym (len-append s t (a .len));
+  block = rw (block-append s t (a .len) first, ← p .len, ← p .block) (q .block);
+  failed = λ e. q .failed (p .failed e);
+}
+
+-- a byte more of a text
+pub put-next : {a b c : Output} {first second third : List ℕ} (text : List ℕ) (i : ℕ) → i < length text → Put (take i text) a b first second → Put (getD text i 0 ∷ []) b c second third
+    → Put (take (i + 1) text) a c first third
+put-next text i h p q = rw (add-one i, take-suc text i 0 h) (put-both p q)
+
+-- ---- the digits of a number
+
+-- the fewest digits that hold a number are its digits
+fewest : (k j n : ℕ) → n < k → Fewest 10 1 n j → ioDigits 10 j n ≡ digits k n
+fewest zero j n h f = absurd (not-suc-le-zero h)
+fewest (suc k) zero n h f = absurd (not-suc-le-zero (f .0))
+fewest (suc k) (suc zero) n h f =
+    let one : n < 10 = f .1 in
+    let rest : n % 10 ≡ n = omega arith in
+    rw (rest, lt-ltb n 10 one)
+fewest (suc k) (suc (suc j)) n h f =
+    let last : suc (suc j) - 1 ≡ suc j = omega arith in
+    let least : 10 ^ suc j ≤ n = rw last at (f .2 (omega arith)) in
+    let more : 10 ≤ n = omega (arith, positive j) in
+    rw (le-ltb n 10 more, lt-ltb (n % 10) 10 (omega arith), fewest k (suc j) (n / 10) (omega arith) (omega arith, omega (arith, f .1), λ l. lower j n least))
+  where
+    lower : (j n : ℕ) → 10 ^ suc j ≤ n → 10 ^ (suc j - 1) ≤ n / 10
+    lower j n h = let last : suc j - 1 ≡ j = omega arith in rw last (omega arith)
+
+    positive : (j : ℕ) → 1 ≤ 10 ^ j
+    positive zero = omega arith
+    positive (suc j) = omega (arith, positive j)
+
+pub decimal-is : (n k : ℕ) → Fewest 10 1 n k → ioDigits 10 k n ≡ decimal n
+unfolding decimal
+decimal-is n k f = fewest (suc n) k n (omega arith) f

@@ -1,0 +1,5 @@
+-- The laws by concept: hexadecimal digits, numbers, the block of an output, lines.
+pub mod Octets
+pub mod Numbers
+pub mod Blocks
+pub mod Lines

@@ -1,0 +1,5 @@
+-- The definitions that the contracts cite, in the order in which they build on each other.
+pub mod Octet
+pub mod Number
+pub mod Output
+pub mod Line

@@ -1,0 +1,43 @@
+-- The block that output is collected in, as bytes are put into it.
+use mathlib.Core.Path.{_≡_}
+use mathlib.Core.Bool.{true, cond}
+use mathlib.Core.List.{List, [], _∷_, _++_}
+use Prim.Native.Nat.{ℕ, zero, suc, _+_, _/_, _%_}
+use lib.Dec.{ltb}
+use lib.ListN.{set}
+use Rattle.text.specs.declared.output.Output.{Output}
+
+-- where the next byte stands: behind the others, or at the front once the block is full
+unfoldable pub nextPlace : ℕ → ℕ
+nextPlace len = cond (ltb len 8192) len 0
+
+-- how many bytes the block has once a text is put behind the first len, and what it holds
+abbrev pub lenAfter : List ℕ → ℕ → ℕ
+lenAfter [] len = len
+lenAfter (b ∷ text) len = lenAfter text (nextPlace len + 1)
+
+abbrev pub blockAfter : List ℕ → ℕ → List ℕ → List ℕ
+blockAfter [] len block = block
+blockAfter (b ∷ text) len block = blockAfter text (nextPlace len + 1) (set block (nextPlace len) b)
+
+-- a text is put. Nothing says when a write fails; that one did is not forgotten
+pub record Put (text : List ℕ) (before after : Output) (entry exit : List ℕ) : Type 0 where
+  pub len : after .len ≡ lenAfter text (before .len)
+  pub block : exit ≡ blockAfter text (before .len) entry
+  pub failed : before .failed ≡ true → after .failed ≡ true
+
+-- the block is written
+pub record Written (before after : Output) : Type 0 where
+  pub len : after .len ≡ 0
+  pub failed : before .failed ≡ true → after .failed ≡ true
+
+-- ---- numbers
+
+-- the digits of n, the last k of them at most: those of n / 10, if there are any, and then n % 10
+abbrev pub digits : ℕ → ℕ → List ℕ
+digits zero n = []
+digits (suc k) n = cond (ltb n 10) ((48 + n) ∷ []) (digits k (n / 10) ++ ((48 + n % 10) ∷ []))
+
+-- a decimal without leading zeros; no number n has more than n + 1 digits
+unfoldable pub decimal : ℕ → List ℕ
+decimal n = digits (suc n) n

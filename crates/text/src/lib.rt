@@ -1,0 +1,21 @@
+// Text as the programs read and write it: numbers, bytes as hexadecimal digits, lines, and output that is collected in a block.
+mod line;
+mod number;
+mod octet;
+mod output;
+
+pub use line::Line;
+pub use number::Number;
+pub use number::Place;
+pub use number::Short;
+pub use number::number_after;
+pub use number::parse_number;
+pub use number::parse_short;
+pub use number::short_after;
+pub use number::skip;
+pub use octet::Octet;
+pub use octet::high_digit;
+pub use octet::low_digit;
+pub use octet::octet_at;
+pub use output::BLOCK_LEN;
+pub use output::Output;

@@ -1,0 +1,90 @@
+// Output, collected in a lent block and written in one piece: a write for each byte would cost more than what the programs do between.
+// That the blocks reach standard output in their order is tested, not proved: files mean nothing in a contract.
+use libc::STDOUT_FILENO;
+ghost use mathlib.Core.Path.{_≡_};
+ghost use mathlib.Core.List.{_∷_, []};
+ghost use Prim.Native.Nat.{_≤_};
+ghost use Rattle.text.specs.Output.{Put, Written, decimal};
+
+pub const BLOCK_LEN: usize = 8192;
+
+pub struct Output {
+    // How many bytes at the start of the block are still to be written.
+    pub len: usize,
+    // Set once a write fails. Nothing is written from then on, since it would stand in the wrong place.
+    pub failed: bool,
+}
+
+impl Output {
+    pub fn new() -> Self
+        ensures { λ r. ⌜ r .len ≡ 0 ⌝ }
+    {
+        Output {
+            len: 0,
+            failed: false,
+        }
+    }
+
+    // A block that is full is written first.
+    pub fn put_byte(self, block: &mut [u8; BLOCK_LEN], byte: u8) -> Self
+        ensures { λ r. ⌜ Put (byte ∷ []) self r (now (block .entry)) (now (block .exit)) ⌝ }
+    {
+        let len = self.len;
+        if len < BLOCK_LEN {
+            block[len] = byte;
+            return Output {
+                len: len + 1,
+                failed: self.failed,
+            };
+        }
+        let written = self.flushed(block);
+        block[0] = byte;
+        Output {
+            len: 1,
+            failed: written.failed,
+        }
+    }
+
+    pub fn put_text(self, block: &mut [u8; BLOCK_LEN], text: &[u8]) -> Self
+        ensures { λ r. ⌜ Put (now (text .entry)) self r (now (block .entry)) (now (block .exit)) ⌝ }
+    {
+        let mut out = self;
+        for i in 0..text.len() {
+            out = out.put_byte(block, text[i]);
+        }
+        out
+    }
+
+    pub fn put_decimal(self, block: &mut [u8; BLOCK_LEN], n: u64) -> Self
+        ensures { λ r. ⌜ Put (decimal n) self r (now (block .entry)) (now (block .exit)) ⌝ }
+    {
+        let mut digits = [0u8; 20];
+        let count = io::decimal(n, &mut digits);
+        self.put_text(block, &digits[..count])
+    }
+
+    // Writes the block as far as it is filled, unless a write failed before.
+    pub fn flushed(self, block: &[u8; BLOCK_LEN]) -> Self
+        ensures { λ r. ⌜ Written self r ⌝ }
+    {
+        if self.failed {
+            return Output {
+                len: 0,
+                failed: true,
+            };
+        }
+        let len = least(self.len, BLOCK_LEN);
+        let bytes: &[u8] = block;
+        let written = io::write_all(STDOUT_FILENO, &bytes[0..len]);
+        Output {
+            len: 0,
+            failed: !written,
+        }
+    }
+}
+
+fn least(a: usize, b: usize) -> usize
+    ensures { λ r. ⌜ r ≤ b ⌝ }
+{
+    if a < b { a } else { b }
+}
