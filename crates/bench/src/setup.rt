@@ -1,16 +1,15 @@
 // The first line: `CODE SIZE ROUNDS`.
-use crate::number::Number;
-use crate::number::Place;
-use crate::number::number_after;
-use crate::number::parse_number;
-use crate::number::skip;
+use text::Number;
+use text::Place;
+use text::Short;
+use text::number_after;
+use text::parse_short;
+use text::skip;
 ghost use lib.ListN.{length};
 ghost use Rattle.bench.specs.Setup.{Usable};
 
 // How many bytes the line may have, with its line feed.
 pub const LINE_MAX: usize = 64;
-
-const U32_MAX: u64 = 4294967295;
 
 // The most bytes that the splitter takes in one payload.
 const SIZE_MAX: u64 = 65535;
@@ -31,10 +30,10 @@ pub enum FirstLine {
 pub fn parse_setup(input: &[u8]) -> FirstLine
     ensures { λ r. ⌜ Usable (length (now (input .entry))) r ⌝ }
 {
-    let Number::Value {
+    let Short::Value {
         value: code,
         next: code_end,
-    } = parse_number(input, 0, U32_MAX)
+    } = parse_short(input, 0)
     else {
         return FirstLine::Malformed;
     };
@@ -52,7 +51,7 @@ pub fn parse_setup(input: &[u8]) -> FirstLine
     else {
         return FirstLine::Malformed;
     };
-    parse_line_end(input, next, code as u32, size as usize, rounds)
+    parse_line_end(input, next, code, size as usize, rounds)
 }
 
 fn parse_line_end(input: &[u8], at: usize, code: u32, size: usize, rounds: u64) -> FirstLine

@@ -1,7 +1,6 @@
 -- `parse_line_end` is safe, and what it answers is usable: a payload is not empty, and the stream begins within the input.
-use mathlib.Core.Path.{ap}
 use native.Mathlib.Omega.{arith}
-use Rattle.bench.specs.Setup.{placeOf}
+use Rattle.text.proofs.Numbers.{found}
 use borrow.Author.Needs.{needs}
 use Rattle.bench.proofs.setup.parse_line_end.Statement.{statement}
 use Rattle.bench.proofs.setup.parse_line_end.Tie as tie
@@ -27,7 +26,7 @@ returns-3 c = search needs
 returns-4 : tie.Need-returns-4
 returns-4 c =
     let start = c .before .before .before in
-    (omega (arith, c .if2), omega (arith, ap placeOf (start .start .given .1), start .before .before .skip .ensures))
+    (omega (arith, c .if2), found _ _ _ (start .start .given .1) (start .before .before .skip .ensures) .inside)
 
 pub parse-line-end-spec : {M : Type 1} → statement M
 parse-line-end-spec =
