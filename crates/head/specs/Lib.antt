@@ -1,3 +1,2 @@
-pub mod Bounds
 pub mod Info
 pub mod Request

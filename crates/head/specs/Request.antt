@@ -1,9 +1,7 @@
--- The bounds that a parsed line keeps: the bytes that it gives fit the array that is lent for them, and a number ends within its line.
+-- The bound that a parsed line keeps: the bytes that it gives fit the array that is lent for them.
 use Prim.Native.Nat.{ℕ}
 use Rattle.head.specs.declared.request.Request.{Request}
 use Rattle.head.specs.declared.request.Request.the-variants.{Head, Skip, Duration, Malformed}
-use Rattle.head.specs.declared.request.Number.{Number}
-use Rattle.head.specs.declared.request.Number.the-variants.{Value, NoNumber}
 use Rattle.head.specs.declared.request.Bytes.{Bytes}
 use Rattle.head.specs.declared.request.Bytes.the-variants.{Count, NoBytes}
 use Rattle.head.specs.declared.request.Coded.{Coded}
@@ -15,11 +13,6 @@ countOf (Head code count) = count
 countOf (Skip code count) = count
 countOf (Duration samples rate) = 0
 countOf Malformed = 0
-
--- the place after a number's last digit
-abbrev pub placeOf : Number → ℕ
-placeOf (Value value next) = next
-placeOf NoNumber = 0
 
 -- how many bytes the rest of a line gives
 abbrev pub bytesOf : Bytes → ℕ

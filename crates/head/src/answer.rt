@@ -1,40 +1,34 @@
 // The answer to one line, closed by a line feed.
-use crate::output::BLOCK_LEN;
-use crate::output::Output;
 use crate::request::BYTES_MAX;
 use crate::request::Request;
 use crate::request::parse_request;
 use heads::AudioSyntax;
 use heads::CodedSyntax;
+use text::BLOCK_LEN;
+use text::Output;
 ghost use mathlib.Core.Path.{_≡_};
 ghost use Prim.Native.Nat.{_+_, _≤_};
-ghost use Rattle.head.specs.Bounds.{HasRoom};
 ghost use Rattle.head.specs.Info.{numberAt};
-
-// The longest answer: six numbers of at most ten digits, each with the space or the line feed that follows it.
-pub const ANSWER_MAX: usize = 66;
 
 const NUMBERS: usize = 6;
 
-pub fn put_answer(out: Output, block: &mut [u8; BLOCK_LEN], line: &[u8]) -> Output
-    requires { ⌜ HasRoom out ⌝ }
-    ensures { λ r. ⌜ r .len ≤ 8192 ⌝ }
-{
+pub fn put_answer(out: Output, block: &mut [u8; BLOCK_LEN], line: &[u8]) -> Output {
     let mut bytes = [0u8; BYTES_MAX];
     match parse_request(line, &mut bytes) {
         Request::Head { code, count } => put_head(out, block, code, &bytes, count),
         Request::Skip { code, count } => put_skip(out, block, code, &bytes, count),
         Request::Duration { samples, rate } => put_duration(out, block, samples, rate),
-        Request::Malformed => out.put_byte(block, b'?').put_byte(block, b'\n'),
+        Request::Malformed => put_malformed(out, block),
     }
 }
 
-fn put_duration(out: Output, block: &mut [u8; BLOCK_LEN], samples: u32, rate: u32) -> Output
-    requires { ⌜ HasRoom out ⌝ }
-    ensures { λ r. ⌜ r .len ≤ 8192 ⌝ }
-{
+pub fn put_malformed(out: Output, block: &mut [u8; BLOCK_LEN]) -> Output {
+    out.put_text(block, b"?\n")
+}
+
+fn put_duration(out: Output, block: &mut [u8; BLOCK_LEN], samples: u32, rate: u32) -> Output {
     let ticks = heads::audio_frame_duration_90k(samples, rate);
-    out.put_decimal(block, ticks).put_byte(block, b'\n')
+    out.put_decimal(block, ticks as u64).put_byte(block, b'\n')
 }
 
 // The head is the first count bytes of the array.
@@ -45,8 +39,7 @@ fn put_head(
     bytes: &[u8; BYTES_MAX],
     count: usize,
 ) -> Output
-    requires { ⌜ HasRoom out × (count ≤ 128) ⌝ }
-    ensures { λ r. ⌜ r .len ≤ 8192 ⌝ }
+    requires { ⌜ count ≤ 128 ⌝ }
 {
     let mut info = [0u8; 24];
     let head: &[u8] = bytes;
@@ -57,7 +50,7 @@ fn put_head(
     put_refusal(out, block, number)
 }
 
-// The first place of the first count bytes at which a head can begin. At most 128 bytes have few enough places for 32 bits.
+// The first place of the first count bytes at which a head can begin.
 fn put_skip(
     out: Output,
     block: &mut [u8; BLOCK_LEN],
@@ -65,37 +58,30 @@ fn put_skip(
     bytes: &[u8; BYTES_MAX],
     count: usize,
 ) -> Output
-    requires { ⌜ HasRoom out × (count ≤ 128) ⌝ }
-    ensures { λ r. ⌜ r .len ≤ 8192 ⌝ }
+    requires { ⌜ count ≤ 128 ⌝ }
 {
     let searched: &[u8] = bytes;
     match AudioSyntax::from_code(code) {
         CodedSyntax::Known(syntax) => {
             let place = syntax.skip_to_sync(&searched[0..count]);
-            out.put_decimal(block, place as u32).put_byte(block, b'\n')
+            out.put_decimal(block, place as u64).put_byte(block, b'\n')
         }
         CodedSyntax::Refused(refusal) => put_refusal(out, block, refusal.number()),
     }
 }
 
-fn put_refusal(out: Output, block: &mut [u8; BLOCK_LEN], number: u32) -> Output
-    requires { ⌜ HasRoom out ⌝ }
-    ensures { λ r. ⌜ r .len ≤ 8192 ⌝ }
-{
+fn put_refusal(out: Output, block: &mut [u8; BLOCK_LEN], number: u32) -> Output {
     out.put_text(block, b"refused ")
-        .put_decimal(block, number)
+        .put_decimal(block, number as u64)
         .put_byte(block, b'\n')
 }
 
 // Kind, length, samples, rate, channels and bit rate, a space between them.
-fn put_info(out: Output, block: &mut [u8; BLOCK_LEN], info: &[u8; 24]) -> Output
-    requires { ⌜ HasRoom out ⌝ }
-    ensures { λ r. ⌜ r .len ≤ 8192 ⌝ }
-{
-    let mut row = out.put_decimal(block, little_endian(info, 0));
+fn put_info(out: Output, block: &mut [u8; BLOCK_LEN], info: &[u8; 24]) -> Output {
+    let mut row = out.put_decimal(block, little_endian(info, 0) as u64);
     for k in 1..NUMBERS {
         row = row.put_byte(block, b' ')
-            .put_decimal(block, little_endian(info, 4 * k));
+            .put_decimal(block, little_endian(info, 4 * k) as u64);
     }
     row.put_byte(block, b'\n')
 }

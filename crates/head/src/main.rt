@@ -1,7 +1,5 @@
 // Answers each line of standard input by one line on standard output: the head, the place or the duration that it asks for, or '?'.
 mod answer;
-mod line;
-mod output;
 mod request;
 mod session;
 

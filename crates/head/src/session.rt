@@ -1,13 +1,13 @@
 // A run over standard input, which comes in pieces that end anywhere: a line is collected up to its line feed, and then answered.
-use crate::answer::ANSWER_MAX;
 use crate::answer::put_answer;
-use crate::line::LINE_MAX;
-use crate::line::Line;
-use crate::output::BLOCK_LEN;
-use crate::output::Output;
+use crate::answer::put_malformed;
 use libc::STDIN_FILENO;
-ghost use Prim.Native.Nat.{_≤_};
-ghost use Rattle.head.specs.Bounds.{HasRoom, Ready, Within};
+use text::BLOCK_LEN;
+use text::Line;
+use text::Output;
+
+// How many bytes of a line are kept. No well formed line has more than 396.
+const LINE_MAX: usize = 512;
 
 pub struct Session {
     pub line: Line,
@@ -36,10 +36,7 @@ pub fn run() {
 
 impl Session {
     // Reads once and takes what came. A read that fails counts as the end of the input.
-    fn read_some(self, text: &mut [u8; LINE_MAX], block: &mut [u8; BLOCK_LEN]) -> Self
-        requires { ⌜ Ready self ⌝ }
-        ensures { λ r. ⌜ Ready r ⌝ }
-    {
+    fn read_some(self, text: &mut [u8; LINE_MAX], block: &mut [u8; BLOCK_LEN]) -> Self {
         let mut input = io::large_buffer();
         let got = libc::read(STDIN_FILENO, &mut input);
         if got <= 0 {
@@ -49,19 +46,13 @@ impl Session {
         self.feed(&input[..n], text, block)
     }
 
-    fn closed(mut self) -> Self
-        requires { ⌜ Ready self ⌝ }
-        ensures { λ r. ⌜ Ready r ⌝ }
-    {
+    fn closed(mut self) -> Self {
         self.open = false;
         self
     }
 
     // The line and the output are apart here, so that a byte of a line moves nothing but its count.
-    fn feed(self, bytes: &[u8], text: &mut [u8; LINE_MAX], block: &mut [u8; BLOCK_LEN]) -> Self
-        requires { ⌜ Ready self ⌝ }
-        ensures { λ r. ⌜ Ready r ⌝ }
-    {
+    fn feed(self, bytes: &[u8], text: &mut [u8; LINE_MAX], block: &mut [u8; BLOCK_LEN]) -> Self {
         let mut line = self.line;
         let mut output = self.output;
         for i in 0..bytes.len() {
@@ -81,10 +72,7 @@ impl Session {
     }
 
     // What is left to write. A last line that no line feed closes counts too, unless it is empty.
-    fn finish(self, text: &[u8; LINE_MAX], block: &mut [u8; BLOCK_LEN]) -> Output
-        requires { ⌜ Ready self ⌝ }
-        ensures { λ r. ⌜ r .len ≤ 8192 ⌝ }
-    {
+    fn finish(self, text: &[u8; LINE_MAX], block: &mut [u8; BLOCK_LEN]) -> Output {
         let line = self.line;
         let output = self.output;
         if line.len == 0 {
@@ -94,21 +82,14 @@ impl Session {
     }
 }
 
-// Answers the line, and writes the block once the next answer might not fit any more.
 fn end_line(
     output: Output,
     block: &mut [u8; BLOCK_LEN],
     text: &[u8; LINE_MAX],
     line: Line,
-) -> Output
-    requires { ⌜ HasRoom output × Within line ⌝ }
-    ensures { λ r. ⌜ HasRoom r ⌝ }
-{
-    let len = line.len;
-    let bytes: &[u8] = text;
-    let answered = put_answer(output, block, &bytes[0..len]);
-    if answered.len <= BLOCK_LEN - ANSWER_MAX {
-        return answered;
+) -> Output {
+    if line.too_long {
+        return put_malformed(output, block);
     }
-    answered.flushed(block)
+    put_answer(output, block, line.bytes(text))
 }

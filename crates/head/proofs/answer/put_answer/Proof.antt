@@ -1,4 +1,4 @@
--- `put_answer` is safe and leaves the output within its block: a head or a skip that was asked for has at most 128 bytes.
+-- `put_answer` is safe: a head or a skip that was asked for has at most 128 bytes.
 use mathlib.Core.Path.{ap}
 use native.Mathlib.Omega.{arith}
 use Rattle.head.specs.Request.{countOf}
@@ -30,11 +30,8 @@ put-duration-requires c κs = search needs
 enum-told : tie.Need-enum-told
 enum-told c = search needs
 
-put-byte-requires : tie.Need-put-byte-requires
-put-byte-requires c κs = search needs
-
-put-byte-requires-2 : tie.Need-put-byte-requires-2
-put-byte-requires-2 c κs = search needs
+put-malformed-requires : tie.Need-put-malformed-requires
+put-malformed-requires c κs = search needs
 
 returns : tie.Need-returns
 returns c = search needs
@@ -60,8 +57,7 @@ put-answer-spec =
     enum-known-samples
     put-duration-requires
     enum-told
-    put-byte-requires
-    put-byte-requires-2
+    put-malformed-requires
     returns
     returns-2
     returns-3

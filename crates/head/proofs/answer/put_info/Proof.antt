@@ -1,18 +1,20 @@
--- `put_info` is safe, ends, and leaves the output within its block. The invariant: before number k the row leaves room for 6 - k numbers of ten digits,
--- a space in front of each, and for the line feed.
+-- `put_info` is safe and ends.
+use Prim.Native.Nat.{_-_}
 use borrow.Author.Needs.{needs}
-use Prim.Native.Nat.{_≤_, _+_, _*_, _-_}
 use Rattle.head.proofs.answer.put_info.Statement.{statement}
 use Rattle.head.proofs.answer.put_info.Tie as tie
 
 abbrev Inv-loop : tie.InvT-loop
-Inv-loop block₀ info row₀ k₀ block row k = (k ≤ 6) × (row .len + 67 ≤ 8192 + 11 * k)
+Inv-loop block₀ info row₀ k₀ block row k = Unit {0}
 
 abbrev μ-loop : tie.MeasureT-loop
 μ-loop block₀ info row₀ k₀ block row k = 6 - k
 
 little-endian-requires : tie.Need-little-endian-requires Inv-loop μ-loop
 little-endian-requires c κs = search needs
+
+cast-put-decimal : tie.Need-cast-put-decimal Inv-loop μ-loop
+cast-put-decimal c = search needs
 
 put-decimal-requires : tie.Need-put-decimal-requires Inv-loop μ-loop
 put-decimal-requires c κs = search needs
@@ -28,6 +30,9 @@ mul-little-endian c = search needs
 
 little-endian-requires-2 : tie.Need-little-endian-requires-2 Inv-loop μ-loop
 little-endian-requires-2 c κs = search needs
+
+cast-put-decimal-2 : tie.Need-cast-put-decimal-2 Inv-loop μ-loop
+cast-put-decimal-2 c = search needs
 
 put-decimal-requires-2 : tie.Need-put-decimal-requires-2 Inv-loop μ-loop
 put-decimal-requires-2 c κs = search needs
@@ -54,11 +59,13 @@ put-info-spec =
     Inv-loop
     μ-loop
     little-endian-requires
+    cast-put-decimal
     put-decimal-requires
     loop-holds
     put-byte-requires
     mul-little-endian
     little-endian-requires-2
+    cast-put-decimal-2
     put-decimal-requires-2
     add-k
     loop-less

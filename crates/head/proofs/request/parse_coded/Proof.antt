@@ -1,13 +1,13 @@
--- `parse_coded` is safe, and at most 128 bytes stand behind the code.
+-- `parse_coded` is safe, and answers no more bytes than the array has.
 use mathlib.Core.Path.{ap}
 use native.Mathlib.Omega.{arith}
-use Rattle.head.specs.Request.{placeOf, bytesOf}
+use Rattle.head.specs.Request.{bytesOf}
 use borrow.Author.Needs.{needs}
 use Rattle.head.proofs.request.parse_coded.Statement.{statement}
 use Rattle.head.proofs.request.parse_coded.Tie as tie
 
-parse-number-requires : tie.Need-parse-number-requires
-parse-number-requires c κs = search needs
+parse-digits-requires : tie.Need-parse-digits-requires
+parse-digits-requires c κs = search needs
 
 enum-known-code : tie.Need-enum-known-code
 enum-known-code c = search needs
@@ -19,7 +19,7 @@ returns : tie.Need-returns
 returns c = search needs
 
 parse-bytes-requires : tie.Need-parse-bytes-requires
-parse-bytes-requires c κs = omega (arith, ap placeOf (c .before .before .code .given .1))
+parse-bytes-requires c κs = search needs
 
 enum-known-count : tie.Need-enum-known-count
 enum-known-count c = search needs
@@ -37,7 +37,7 @@ pub parse-coded-spec : {M : Type 1} → statement M
 parse-coded-spec =
     tie.close
     (tie.spec
-    parse-number-requires
+    parse-digits-requires
     enum-known-code
     enum-told
     returns

@@ -1,4 +1,4 @@
--- `parse_head` is safe, and a head that it answers has at most 128 bytes.
+-- `parse_head` is safe, and asks about no more bytes than the array has.
 use mathlib.Core.Path.{ap}
 use native.Mathlib.Omega.{arith}
 use Rattle.head.specs.Request.{codedOf}

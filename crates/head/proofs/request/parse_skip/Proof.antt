@@ -1,4 +1,4 @@
--- `parse_skip` is safe, and a skip that it answers is over at most 128 bytes.
+-- `parse_skip` is safe, and asks about no more bytes than the array has.
 use mathlib.Core.Path.{ap}
 use native.Mathlib.Omega.{arith}
 use Rattle.head.specs.Request.{codedOf}
@@ -6,8 +6,14 @@ use borrow.Author.Needs.{needs}
 use Rattle.head.proofs.request.parse_skip.Statement.{statement}
 use Rattle.head.proofs.request.parse_skip.Tie as tie
 
-stands-at-requires : tie.Need-stands-at-requires
-stands-at-requires c κs = search needs
+skip-requires : tie.Need-skip-requires
+skip-requires c κs = search needs
+
+enum-known-start : tie.Need-enum-known-start
+enum-known-start c = search needs
+
+enum-told : tie.Need-enum-told
+enum-told c = search needs
 
 returns : tie.Need-returns
 returns c = search needs
@@ -18,8 +24,8 @@ parse-coded-requires c κs = search needs
 enum-known-code : tie.Need-enum-known-code
 enum-known-code c = search needs
 
-enum-told : tie.Need-enum-told
-enum-told c = search needs
+enum-told-2 : tie.Need-enum-told-2
+enum-told-2 c = search needs
 
 returns-2 : tie.Need-returns-2
 returns-2 c = search needs
@@ -31,10 +37,12 @@ pub parse-skip-spec : {M : Type 1} → statement M
 parse-skip-spec =
     tie.close
     (tie.spec
-    stands-at-requires
+    skip-requires
+    enum-known-start
+    enum-told
     returns
     parse-coded-requires
     enum-known-code
-    enum-told
+    enum-told-2
     returns-2
     returns-3)

@@ -1,11 +1,10 @@
 -- `run` is safe and ends: the measure is the number of turns that are left.
 use borrow.Author.Needs.{needs}
-use Rattle.head.specs.Bounds.{Ready}
 use Rattle.head.proofs.session.run.Statement.{statement}
 use Rattle.head.proofs.session.run.Tie as tie
 
 abbrev Inv-loop : tie.InvT-loop
-Inv-loop text₀ block₀ session₀ turns₀ text block session turns = Ready session
+Inv-loop text₀ block₀ session₀ turns₀ text block session turns = Unit {0}
 
 abbrev μ-loop : tie.MeasureT-loop
 μ-loop text₀ block₀ session₀ turns₀ text block session turns = turns

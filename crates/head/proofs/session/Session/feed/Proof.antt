@@ -1,14 +1,13 @@
--- `Session::feed` is safe, ends, and keeps the line within its array and room for one answer more.
-use borrow.Author.Needs.{needs}
+-- `Session::feed` is safe and ends.
 use mathlib.Core.Path.{_≡_}
-use Prim.Native.Nat.{_≤_, _-_}
+use Prim.Native.Nat.{_-_}
 use lib.ListN.{length}
-use Rattle.head.specs.Bounds.{Within, HasRoom}
+use borrow.Author.Needs.{needs}
 use Rattle.head.proofs.session.Session.feed.Statement.{statement}
 use Rattle.head.proofs.session.Session.feed.Tie as tie
 
 abbrev Inv-loop : tie.InvT-loop
-Inv-loop bytes text₀ block₀ line₀ output₀ i₀ i-end text block line output i = (i-end ≡ length bytes) × (i ≤ i-end) × Within line × HasRoom output
+Inv-loop bytes text₀ block₀ line₀ output₀ i₀ i-end text block line output i = i-end ≡ length bytes
 
 abbrev μ-loop : tie.MeasureT-loop
 μ-loop bytes text₀ block₀ line₀ output₀ i₀ i-end text block line output i = i-end - i
