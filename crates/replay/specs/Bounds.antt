@@ -1,25 +1,9 @@
--- What the line, the output and the lengths of the lent buffers keep, so that no index leaves an array.
+-- What the lengths of the lent buffers keep, so that no index leaves an array.
 use Prim.Native.Nat.{_*_, _≤_}
-use Rattle.replay.specs.declared.answer.Replay.{Replay}
-use Rattle.replay.specs.declared.line.Line.{Line}
-use Rattle.replay.specs.declared.output.Output.{Output}
 use Rattle.replay.specs.declared.request.Lent.{Lent}
 use Rattle.replay.specs.declared.request.Request.{Request}
 use Rattle.replay.specs.declared.request.Request.the-variants.{New, Set, Push, Flush, Reset, Unlock, Malformed}
-use Rattle.replay.specs.declared.session.Session.{Session}
 use Rattle.splitter.specs.declared.answer.Written.{Written}
-
--- the output lies within its block
-abbrev pub Bounded : Output → Type 0
-Bounded output = output .len ≤ 8192
-
--- the line lies within its array
-abbrev pub Within : Line → Type 0
-Within line = line .len ≤ 140000
-
-pub record Ready (session : Session) : Type 0 where
-  pub line : Within (session .line)
-  pub output : Bounded (session .replay .output)
 
 -- no more is lent than the buffers have
 pub record Lendable (lent : Lent) : Type 0 where

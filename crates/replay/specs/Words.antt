@@ -1,9 +1,7 @@
 -- What is known of what was read from a line: a value is within its limit, and a place is not before the place that was read from.
 use Prim.Native.Nat.{ℕ, _≤_, _<_}
-use Rattle.replay.specs.declared.number.Place.{Place}
-use Rattle.replay.specs.declared.number.Place.the-variants.{At, Nowhere}
-use Rattle.replay.specs.declared.number.Number.{Number}
-use Rattle.replay.specs.declared.number.Number.the-variants.{Value, NoNumber}
+use Rattle.text.specs.declared.number.Number.{Number}
+use Rattle.text.specs.declared.number.Number.the-variants.{Value, NoNumber}
 use Rattle.replay.specs.declared.octets.Bytes.{Bytes}
 use Rattle.replay.specs.declared.octets.Bytes.the-variants.{Count, NoBytes}
 use Rattle.replay.specs.declared.octets.Word.{Word}
@@ -12,14 +10,10 @@ use Rattle.replay.specs.declared.request.Lengths.{Lengths}
 use Rattle.replay.specs.declared.request.Lengths.the-variants.{Read, NoLengths}
 use Rattle.replay.specs.Bounds.{Lendable}
 
--- the byte that was looked for stands before the place
-abbrev pub Passed : ℕ → Place → Type 0
-Passed at (At next) = at < next
-Passed at Nowhere = Unit {0}
-
-abbrev pub Reads : ℕ → ℕ → Number → Type 0
-Reads at most (Value value next) = (value ≤ most) × (at ≤ next)
-Reads at most NoNumber = Unit {0}
+-- the number does not stand before the place
+abbrev pub Behind : ℕ → Number → Type 0
+Behind at (Value value next) = at ≤ next
+Behind at NoNumber = Unit {0}
 
 -- how many bytes the rest of a line gives
 abbrev pub bytesOf : Bytes → ℕ

@@ -10,8 +10,6 @@ use crate::octets::PAYLOAD_MAX;
 use crate::outcome::Answer;
 use crate::outcome::Outcome;
 use crate::outcome::put_answer;
-use crate::output::BLOCK_LEN;
-use crate::output::Output;
 use crate::request::Lent;
 use crate::request::Request;
 use crate::request::parse_request;
@@ -26,9 +24,11 @@ use splitter::Pts;
 use splitter::Pushed;
 use splitter::Timing;
 use splitter::Written;
+use text::BLOCK_LEN;
+use text::Output;
 ghost use Prim.Native.Nat.{_≤_};
 ghost use lib.ListN.{length};
-ghost use Rattle.replay.specs.Bounds.{Bounded, Lendable, Fitting};
+ghost use Rattle.replay.specs.Bounds.{Lendable, Fitting};
 
 // After so many calls the whole of the buffers is compared.
 const SWEEP_EVERY: u32 = 64;
@@ -42,9 +42,7 @@ pub struct Replay {
 
 impl Replay {
     // Before the first call, the state is that of a new splitter of code 0.
-    pub fn new() -> Self
-        ensures { λ r. ⌜ Bounded (r .output) ⌝ }
-    {
+    pub fn new() -> Self {
         let splitter = AudioFrameSplitter {
             syntax: 0,
             pending: 0,
@@ -71,10 +69,7 @@ impl Replay {
         pending: &mut [u8; PENDING_LEN],
         out: &mut [u8; OUT_LEN],
         rows: &mut [i64; ROWS_LEN],
-    ) -> Self
-        requires { ⌜ Bounded (self .output) ⌝ }
-        ensures { λ r. ⌜ Bounded (r .output) ⌝ }
-    {
+    ) -> Self {
         let request = parse_request(line, payload);
         match request {
             Request::Push { pts, lent, count } => {
@@ -97,10 +92,7 @@ impl Replay {
         pending: &[u8; PENDING_LEN],
         out: &[u8; OUT_LEN],
         rows: &[i64; ROWS_LEN],
-    ) -> Self
-        requires { ⌜ Bounded (self .output) ⌝ }
-        ensures { λ r. ⌜ Bounded (r .output) ⌝ }
-    {
+    ) -> Self {
         let splitter = self.splitter;
         match request {
             Request::New(code) => self.make(block, code, pending, out, rows),
@@ -114,10 +106,7 @@ impl Replay {
         }
     }
 
-    pub fn malformed(self, block: &mut [u8; BLOCK_LEN]) -> Self
-        requires { ⌜ Bounded (self .output) ⌝ }
-        ensures { λ r. ⌜ Bounded (r .output) ⌝ }
-    {
+    pub fn malformed(self, block: &mut [u8; BLOCK_LEN]) -> Self {
         let output = self.output;
         let answered = output.put_text(block, b"?\n");
         let mut replay = self;
@@ -133,10 +122,7 @@ impl Replay {
         pending: &[u8; PENDING_LEN],
         out: &[u8; OUT_LEN],
         rows: &[i64; ROWS_LEN],
-    ) -> Self
-        requires { ⌜ Bounded (self .output) ⌝ }
-        ensures { λ r. ⌜ Bounded (r .output) ⌝ }
-    {
+    ) -> Self {
         match AudioFrameSplitter::new(code) {
             NewSplitter::Made(splitter) => {
                 self.quiet(block, Outcome::Done, splitter, pending, out, rows)
@@ -164,10 +150,7 @@ impl Replay {
         pending: &[u8; PENDING_LEN],
         out: &[u8; OUT_LEN],
         rows: &[i64; ROWS_LEN],
-    ) -> Self
-        requires { ⌜ Bounded (self .output) ⌝ }
-        ensures { λ r. ⌜ Bounded (r .output) ⌝ }
-    {
+    ) -> Self {
         let written = Written { rows: 0, bytes: 0 };
         let answer = Answer {
             outcome,
@@ -187,8 +170,7 @@ impl Replay {
         out: &[u8; OUT_LEN],
         rows: &[i64; ROWS_LEN],
     ) -> Self
-        requires { ⌜ Bounded (self .output) × Fitting (answer .written) ⌝ }
-        ensures { λ r. ⌜ Bounded (r .output) ⌝ }
+        requires { ⌜ Fitting (answer .written) ⌝ }
     {
         let output = self.output;
         let splitter = answer.splitter;
@@ -211,8 +193,7 @@ impl Replay {
         out: &mut [u8; OUT_LEN],
         rows: &mut [i64; ROWS_LEN],
     ) -> Self
-        requires { ⌜ Bounded (self .output) × Lendable lent × (count ≤ 65600) ⌝ }
-        ensures { λ r. ⌜ Bounded (r .output) ⌝ }
+        requires { ⌜ Lendable lent × (count ≤ 65600) ⌝ }
     {
         let kept = *pending;
         let splitter = self.splitter;
@@ -238,8 +219,7 @@ impl Replay {
         out: &mut [u8; OUT_LEN],
         rows: &mut [i64; ROWS_LEN],
     ) -> Self
-        requires { ⌜ Bounded (self .output) × Lendable lent ⌝ }
-        ensures { λ r. ⌜ Bounded (r .output) ⌝ }
+        requires { ⌜ Lendable lent ⌝ }
     {
         let kept = *pending;
         let splitter = self.splitter;
@@ -271,8 +251,7 @@ impl Replay {
         out: &mut [u8; OUT_LEN],
         rows: &mut [i64; ROWS_LEN],
     ) -> Self
-        requires { ⌜ Bounded (self .output) × Lendable lent ⌝ }
-        ensures { λ r. ⌜ Bounded (r .output) ⌝ }
+        requires { ⌜ Lendable lent ⌝ }
     {
         let claimed = outcome.written();
         let written = within(claimed, lent);
@@ -289,10 +268,7 @@ impl Replay {
         replay.next_turn()
     }
 
-    fn next_turn(mut self) -> Self
-        requires { ⌜ Bounded (self .output) ⌝ }
-        ensures { λ r. ⌜ Bounded (r .output) ⌝ }
-    {
+    fn next_turn(mut self) -> Self {
         let left = self.until_sweep;
         self.until_sweep = if left == 0 { SWEEP_EVERY - 1 } else { left - 1 };
         self
@@ -304,10 +280,7 @@ impl Replay {
         block: &mut [u8; BLOCK_LEN],
         out: &[u8; OUT_LEN],
         rows: &[i64; ROWS_LEN],
-    ) -> Output
-        requires { ⌜ Bounded (self .output) ⌝ }
-        ensures { λ r. ⌜ Bounded r ⌝ }
-    {
+    ) -> Output {
         let output = self.output;
         if is_out_intact(out, 0, OUT_LEN) && are_rows_intact(rows, 0, ROWS_LEN) {
             return output;

@@ -2,11 +2,9 @@
 // handed back, what it wrote, and whether it left everything else as it was.
 mod answer;
 mod buffers;
-mod line;
 mod number;
 mod octets;
 mod outcome;
-mod output;
 mod print;
 mod request;
 mod rest;

@@ -1,11 +1,13 @@
 // The bytes of a line: words of hexadecimal digits, two for each byte, each with a space before it. A word may end with a count, as
 // `00FF*3`, by which its bytes are repeated.
-use crate::number::Number;
-use crate::number::Place;
-use crate::number::parse_number;
-use crate::number::skip;
+use text::Number;
+use text::Octet;
+use text::Place;
+use text::octet_at;
+use text::parse_number;
+use text::skip;
 ghost use Prim.Native.Nat.{_+_, _≤_};
-ghost use Rattle.replay.specs.Words.{bytesOf, Joins, Reads};
+ghost use Rattle.replay.specs.Words.{bytesOf, Behind, Joins};
 
 // The most bytes that a line may give: some more than the splitter takes in one payload.
 pub const PAYLOAD_MAX: usize = 65600;
@@ -26,11 +28,6 @@ enum Word {
 struct Octets {
     pub len: usize,
     pub next: usize,
-}
-
-enum Octet {
-    Byte(u8),
-    NoByte,
 }
 
 // The rest of the line from place at on.
@@ -100,7 +97,7 @@ fn parse_octets(line: &[u8], at: usize, bytes: &mut [u8; PAYLOAD_MAX], to: usize
 
 // How often a word is repeated: once, where no count is given.
 fn parse_times(line: &[u8], at: usize) -> Number
-    ensures { λ r. ⌜ Reads at 18446744073709551615 r ⌝ }
+    ensures { λ r. ⌜ Behind at r ⌝ }
 {
     match skip(line, at, b'*') {
         Place::At(digits) => parse_number(line, digits, u64::MAX),
@@ -135,36 +132,5 @@ fn copy_up(bytes: &mut [u8; PAYLOAD_MAX], from: usize, to: usize, len: usize)
 {
     for i in 0..len {
         bytes[to + i] = bytes[from + i];
-    }
-}
-
-fn octet_at(line: &[u8], at: usize) -> Octet {
-    if at >= line.len() {
-        return Octet::NoByte;
-    }
-    let next = at + 1;
-    if next >= line.len() {
-        return Octet::NoByte;
-    }
-    let high = digit_value(line[at]);
-    let low = digit_value(line[next]);
-    if high > 15 {
-        return Octet::NoByte;
-    }
-    if low > 15 {
-        return Octet::NoByte;
-    }
-    Octet::Byte(high * 16 + low)
-}
-
-// The value of a hexadecimal digit in either case, and 16 of any other character.
-fn digit_value(c: u8) -> u8
-    ensures { λ r. ⌜ r ≤ 16 ⌝ }
-{
-    match c {
-        b'0'..=b'9' => c - b'0',
-        b'A'..=b'F' => c - b'A' + 10,
-        b'a'..=b'f' => c - b'a' + 10,
-        _ => 16,
     }
 }

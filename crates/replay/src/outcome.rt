@@ -2,9 +2,6 @@
 use crate::buffers::OUT_LEN;
 use crate::buffers::PENDING_LEN;
 use crate::buffers::ROWS_LEN;
-use crate::output::BLOCK_LEN;
-use crate::output::Output;
-use crate::print::put_decimal;
 use crate::print::put_field;
 use crate::print::put_octets;
 use crate::print::put_rows;
@@ -13,8 +10,10 @@ use splitter::AudioFrameSplitter;
 use splitter::FlushAnswer;
 use splitter::PushAnswer;
 use splitter::Written;
+use text::BLOCK_LEN;
+use text::Output;
 ghost use Prim.Native.Nat.{_≤_};
-ghost use Rattle.replay.specs.Bounds.{Bounded, Fitting};
+ghost use Rattle.replay.specs.Bounds.{Fitting};
 
 pub enum Outcome {
     // The number of the refusal.
@@ -71,8 +70,7 @@ pub fn put_answer(
     out: &[u8; OUT_LEN],
     rows: &[i64; ROWS_LEN],
 ) -> Output
-    requires { ⌜ Bounded output × Fitting (answer .written) ⌝ }
-    ensures { λ r. ⌜ Bounded r ⌝ }
+    requires { ⌜ Fitting (answer .written) ⌝ }
 {
     let outcome = answer.outcome;
     let splitter = answer.splitter;
@@ -94,21 +92,19 @@ fn put_buffers(
     out: &[u8; OUT_LEN],
     rows: &[i64; ROWS_LEN],
 ) -> Output
-    requires { ⌜ Bounded output × Fitting written ⌝ }
-    ensures { λ r. ⌜ Bounded r ⌝ }
+    requires { ⌜ Fitting written ⌝ }
 {
     let after_rows = put_rows(output, block, rows, written.rows).put_byte(block, b' ');
     let after_out = put_written(after_rows, block, written.bytes, out).put_byte(block, b' ');
     put_pending(after_out, block, len, pending).put_byte(block, b' ')
 }
 
-fn put_outcome(output: Output, block: &mut [u8; BLOCK_LEN], outcome: Outcome) -> Output
-    requires { ⌜ Bounded output ⌝ }
-    ensures { λ r. ⌜ Bounded r ⌝ }
-{
+fn put_outcome(output: Output, block: &mut [u8; BLOCK_LEN], outcome: Outcome) -> Output {
     match outcome {
         Outcome::Refused(number) => {
-            put_decimal(output.put_byte(block, b'!'), block, number as u64)
+            output
+                .put_byte(block, b'!')
+                .put_decimal(block, number as u64)
         }
         Outcome::Nothing => output.put_byte(block, b'x'),
         Outcome::Wrote(written) => put_counts(output, block, written),
@@ -116,13 +112,10 @@ fn put_outcome(output: Output, block: &mut [u8; BLOCK_LEN], outcome: Outcome) ->
     }
 }
 
-fn put_counts(output: Output, block: &mut [u8; BLOCK_LEN], written: Written) -> Output
-    requires { ⌜ Bounded output ⌝ }
-    ensures { λ r. ⌜ Bounded r ⌝ }
-{
+fn put_counts(output: Output, block: &mut [u8; BLOCK_LEN], written: Written) -> Output {
     let after_mark = output.put_text(block, b"t,");
     let after_rows = put_field(after_mark, block, written.rows as u64, b',');
-    put_decimal(after_rows, block, written.bytes as u64)
+    after_rows.put_decimal(block, written.bytes as u64)
 }
 
 fn put_written(
@@ -131,8 +124,7 @@ fn put_written(
     count: usize,
     out: &[u8; OUT_LEN],
 ) -> Output
-    requires { ⌜ Bounded output × (count ≤ 73800) ⌝ }
-    ensures { λ r. ⌜ Bounded r ⌝ }
+    requires { ⌜ count ≤ 73800 ⌝ }
 {
     let bytes: &[u8] = out;
     put_octets(output, block, &bytes[0..count])
@@ -144,10 +136,7 @@ fn put_pending(
     block: &mut [u8; BLOCK_LEN],
     len: usize,
     pending: &[u8; PENDING_LEN],
-) -> Output
-    requires { ⌜ Bounded output ⌝ }
-    ensures { λ r. ⌜ Bounded r ⌝ }
-{
+) -> Output {
     let bytes: &[u8] = pending;
     if len > PENDING_LEN {
         return put_octets(output, block, bytes);
@@ -155,10 +144,7 @@ fn put_pending(
     put_octets(output, block, &bytes[0..len])
 }
 
-fn put_rest(output: Output, block: &mut [u8; BLOCK_LEN], intact: bool) -> Output
-    requires { ⌜ Bounded output ⌝ }
-    ensures { λ r. ⌜ Bounded r ⌝ }
-{
+fn put_rest(output: Output, block: &mut [u8; BLOCK_LEN], intact: bool) -> Output {
     if intact {
         return output.put_byte(block, b'=');
     }

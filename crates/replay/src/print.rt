@@ -1,36 +1,24 @@
 // Numbers, bytes and rows as text.
 use crate::buffers::ROW_LEN;
 use crate::buffers::ROWS_LEN;
-use crate::output::BLOCK_LEN;
-use crate::output::Output;
-ghost use Prim.Native.Nat.{_+_, _*_, _≤_, _<_};
-ghost use Rattle.replay.specs.Bounds.{Bounded};
-
-pub fn put_decimal(output: Output, block: &mut [u8; BLOCK_LEN], n: u64) -> Output
-    requires { ⌜ Bounded output ⌝ }
-    ensures { λ r. ⌜ Bounded r ⌝ }
-{
-    let mut digits = [0u8; 20];
-    let count = io::decimal(n, &mut digits);
-    output.put_text(block, &digits[..count])
-}
+use text::BLOCK_LEN;
+use text::Output;
+use text::high_digit;
+use text::low_digit;
+ghost use Prim.Native.Nat.{_+_, _*_, _≤_};
 
 // A number, and the byte behind it.
-pub fn put_field(output: Output, block: &mut [u8; BLOCK_LEN], n: u64, end: u8) -> Output
-    requires { ⌜ Bounded output ⌝ }
-    ensures { λ r. ⌜ Bounded r ⌝ }
-{
-    put_decimal(output, block, n).put_byte(block, end)
+pub fn put_field(output: Output, block: &mut [u8; BLOCK_LEN], n: u64, end: u8) -> Output {
+    output.put_decimal(block, n).put_byte(block, end)
 }
 
-pub fn put_signed(output: Output, block: &mut [u8; BLOCK_LEN], x: i64) -> Output
-    requires { ⌜ Bounded output ⌝ }
-    ensures { λ r. ⌜ Bounded r ⌝ }
-{
+pub fn put_signed(output: Output, block: &mut [u8; BLOCK_LEN], x: i64) -> Output {
     if x < 0 {
-        return put_decimal(output.put_byte(block, b'-'), block, magnitude(x));
+        return output
+            .put_byte(block, b'-')
+            .put_decimal(block, magnitude(x));
     }
-    put_decimal(output, block, magnitude(x))
+    output.put_decimal(block, magnitude(x))
 }
 
 // How far a number is from 0. A negative one goes by way of -1 - x, which fits also where x is -2^63.
@@ -43,10 +31,7 @@ fn magnitude(x: i64) -> u64 {
 }
 
 // Two digits for each byte, or a dot where there is none.
-pub fn put_octets(output: Output, block: &mut [u8; BLOCK_LEN], bytes: &[u8]) -> Output
-    requires { ⌜ Bounded output ⌝ }
-    ensures { λ r. ⌜ Bounded r ⌝ }
-{
+pub fn put_octets(output: Output, block: &mut [u8; BLOCK_LEN], bytes: &[u8]) -> Output {
     if bytes.len() == 0 {
         return output.put_byte(block, b'.');
     }
@@ -57,19 +42,10 @@ pub fn put_octets(output: Output, block: &mut [u8; BLOCK_LEN], bytes: &[u8]) -> 
     text
 }
 
-fn put_octet(output: Output, block: &mut [u8; BLOCK_LEN], byte: u8) -> Output
-    requires { ⌜ Bounded output ⌝ }
-    ensures { λ r. ⌜ Bounded r ⌝ }
-{
+fn put_octet(output: Output, block: &mut [u8; BLOCK_LEN], byte: u8) -> Output {
     output
-        .put_byte(block, digit(byte / 16))
-        .put_byte(block, digit(byte % 16))
-}
-
-fn digit(n: u8) -> u8
-    requires { ⌜ n < 16 ⌝ }
-{
-    if n < 10 { b'0' + n } else { b'A' + (n - 10) }
+        .put_byte(block, high_digit(byte))
+        .put_byte(block, low_digit(byte))
 }
 
 // The first count rows, in brackets.
@@ -79,8 +55,7 @@ pub fn put_rows(
     rows: &[i64; ROWS_LEN],
     count: usize,
 ) -> Output
-    requires { ⌜ Bounded output × (count * 8 ≤ 84280) ⌝ }
-    ensures { λ r. ⌜ Bounded r ⌝ }
+    requires { ⌜ count * 8 ≤ 84280 ⌝ }
 {
     let mut text = output.put_byte(block, b'[');
     for k in 0..count {
@@ -90,10 +65,7 @@ pub fn put_rows(
 }
 
 // What stands before row k: a semicolon, but for the first row.
-fn put_separator(output: Output, block: &mut [u8; BLOCK_LEN], k: usize) -> Output
-    requires { ⌜ Bounded output ⌝ }
-    ensures { λ r. ⌜ Bounded r ⌝ }
-{
+fn put_separator(output: Output, block: &mut [u8; BLOCK_LEN], k: usize) -> Output {
     if k == 0 {
         return output;
     }
@@ -102,8 +74,7 @@ fn put_separator(output: Output, block: &mut [u8; BLOCK_LEN], k: usize) -> Outpu
 
 // The row from place at on.
 fn put_row(output: Output, block: &mut [u8; BLOCK_LEN], rows: &[i64; ROWS_LEN], at: usize) -> Output
-    requires { ⌜ Bounded output × (at + 8 ≤ 84280) ⌝ }
-    ensures { λ r. ⌜ Bounded r ⌝ }
+    requires { ⌜ at + 8 ≤ 84280 ⌝ }
 {
     let mut text = put_signed(output, block, rows[at]);
     for i in 1..ROW_LEN {

@@ -2,14 +2,8 @@
 use crate::buffers::OUT_LEN;
 use crate::buffers::PENDING_LEN;
 use crate::buffers::ROWS_LEN;
-use crate::number::Number;
-use crate::number::Place;
-use crate::number::Short;
 use crate::number::Stamp;
-use crate::number::number_after;
 use crate::number::parse_pts;
-use crate::number::short_after;
-use crate::number::skip;
 use crate::octets::Bytes;
 use crate::octets::PAYLOAD_MAX;
 use crate::octets::parse_bytes;
@@ -17,6 +11,12 @@ use crate::state::StateText;
 use crate::state::parse_state;
 use splitter::AudioFrameSplitter;
 use splitter::Pts;
+use text::Number;
+use text::Place;
+use text::Short;
+use text::number_after;
+use text::short_after;
+use text::skip;
 ghost use Rattle.replay.specs.Bounds.{Allowed};
 ghost use Rattle.replay.specs.Words.{LentWithin};
 

@@ -5,13 +5,14 @@ use crate::buffers::PENDING_LEN;
 use crate::buffers::ROWS_LEN;
 use crate::buffers::fill_out;
 use crate::buffers::fill_rows;
-use crate::line::LINE_MAX;
-use crate::line::Line;
 use crate::octets::PAYLOAD_MAX;
-use crate::output::BLOCK_LEN;
-use crate::output::Output;
 use libc::STDIN_FILENO;
-ghost use Rattle.replay.specs.Bounds.{Bounded, Ready, Within};
+use text::BLOCK_LEN;
+use text::Line;
+use text::Output;
+
+// How many bytes of a line are kept: enough for the longest payload in one word. A longer line is malformed.
+const LINE_MAX: usize = 140000;
 
 pub struct Session {
     pub line: Line,
@@ -57,9 +58,7 @@ pub fn run() {
 }
 
 impl Session {
-    fn new() -> Self
-        ensures { λ r. ⌜ Ready r ⌝ }
-    {
+    fn new() -> Self {
         Session {
             line: Line::new(),
             replay: Replay::new(),
@@ -76,10 +75,7 @@ impl Session {
         pending: &mut [u8; PENDING_LEN],
         out: &mut [u8; OUT_LEN],
         rows: &mut [i64; ROWS_LEN],
-    ) -> Self
-        requires { ⌜ Ready self ⌝ }
-        ensures { λ r. ⌜ Ready r ⌝ }
-    {
+    ) -> Self {
         let mut input = io::large_buffer();
         let got = libc::read(STDIN_FILENO, &mut input);
         if got <= 0 {
@@ -89,10 +85,7 @@ impl Session {
         self.feed(&input[..n], text, block, payload, pending, out, rows)
     }
 
-    fn closed(mut self) -> Self
-        requires { ⌜ Ready self ⌝ }
-        ensures { λ r. ⌜ Ready r ⌝ }
-    {
+    fn closed(mut self) -> Self {
         self.open = false;
         self
     }
@@ -107,10 +100,7 @@ impl Session {
         pending: &mut [u8; PENDING_LEN],
         out: &mut [u8; OUT_LEN],
         rows: &mut [i64; ROWS_LEN],
-    ) -> Self
-        requires { ⌜ Ready self ⌝ }
-        ensures { λ r. ⌜ Ready r ⌝ }
-    {
+    ) -> Self {
         let mut line = self.line;
         let mut replay = self.replay;
         for i in 0..bytes.len() {
@@ -139,10 +129,7 @@ impl Session {
         pending: &mut [u8; PENDING_LEN],
         out: &mut [u8; OUT_LEN],
         rows: &mut [i64; ROWS_LEN],
-    ) -> Output
-        requires { ⌜ Ready self ⌝ }
-        ensures { λ r. ⌜ Bounded r ⌝ }
-    {
+    ) -> Output {
         let line = self.line;
         let replay = self.replay;
         if line.len == 0 {
@@ -161,14 +148,9 @@ fn end_line(
     pending: &mut [u8; PENDING_LEN],
     out: &mut [u8; OUT_LEN],
     rows: &mut [i64; ROWS_LEN],
-) -> Replay
-    requires { ⌜ Bounded (replay .output) × Within line ⌝ }
-    ensures { λ r. ⌜ Bounded (r .output) ⌝ }
-{
+) -> Replay {
     if line.too_long {
         return replay.malformed(block);
     }
-    let len = line.len;
-    let bytes: &[u8] = text;
-    replay.answer(block, &bytes[0..len], payload, pending, out, rows)
+    replay.answer(block, line.bytes(text), payload, pending, out, rows)
 }

@@ -1,15 +1,6 @@
 // The splitter's state as text: read from a line, where spaces stand between its parts, and written to an answer, where slashes do.
-use crate::number::Number;
-use crate::number::Place;
-use crate::number::Short;
 use crate::number::Stamp;
-use crate::number::number_after;
 use crate::number::parse_pts;
-use crate::number::short_after;
-use crate::number::skip;
-use crate::output::BLOCK_LEN;
-use crate::output::Output;
-use crate::print::put_decimal;
 use crate::print::put_field;
 use crate::print::put_signed;
 use splitter::Anchor;
@@ -17,7 +8,14 @@ use splitter::Anchored;
 use splitter::AudioFrameSplitter;
 use splitter::Pts;
 use splitter::Timing;
-ghost use Rattle.replay.specs.Bounds.{Bounded};
+use text::BLOCK_LEN;
+use text::Number;
+use text::Output;
+use text::Place;
+use text::Short;
+use text::number_after;
+use text::short_after;
+use text::skip;
 
 // A state that was read, and the place behind it.
 pub enum StateText {
@@ -169,10 +167,7 @@ pub fn put_state(
     output: Output,
     block: &mut [u8; BLOCK_LEN],
     splitter: AudioFrameSplitter,
-) -> Output
-    requires { ⌜ Bounded output ⌝ }
-    ensures { λ r. ⌜ Bounded r ⌝ }
-{
+) -> Output {
     let timing = splitter.timing;
     let after_code = put_field(output, block, splitter.syntax() as u64, b'/');
     let after_pending = put_field(after_code, block, splitter.pending_bytes() as u64, b'/');
@@ -184,42 +179,30 @@ pub fn put_state(
     after_discarded.put_byte(block, b'0')
 }
 
-fn put_timing(output: Output, block: &mut [u8; BLOCK_LEN], timing: Timing) -> Output
-    requires { ⌜ Bounded output ⌝ }
-    ensures { λ r. ⌜ Bounded r ⌝ }
-{
+fn put_timing(output: Output, block: &mut [u8; BLOCK_LEN], timing: Timing) -> Output {
     let pts = timing.residual_pts;
     let anchor = timing.anchor;
     let after_pts = put_pts(output, block, pts).put_byte(block, b'/');
     put_anchor(after_pts, block, anchor).put_byte(block, b'/')
 }
 
-fn put_pts(output: Output, block: &mut [u8; BLOCK_LEN], pts: Pts) -> Output
-    requires { ⌜ Bounded output ⌝ }
-    ensures { λ r. ⌜ Bounded r ⌝ }
-{
+fn put_pts(output: Output, block: &mut [u8; BLOCK_LEN], pts: Pts) -> Output {
     match pts {
         Pts::At(time) => put_signed(output, block, time),
         Pts::Absent => output.put_byte(block, b'-'),
     }
 }
 
-fn put_anchor(output: Output, block: &mut [u8; BLOCK_LEN], anchored: Anchored) -> Output
-    requires { ⌜ Bounded output ⌝ }
-    ensures { λ r. ⌜ Bounded r ⌝ }
-{
+fn put_anchor(output: Output, block: &mut [u8; BLOCK_LEN], anchored: Anchored) -> Output {
     match anchored {
         Anchored::To(anchor) => put_anchor_numbers(output, block, anchor),
         Anchored::Free => output.put_byte(block, b'-'),
     }
 }
 
-fn put_anchor_numbers(output: Output, block: &mut [u8; BLOCK_LEN], anchor: Anchor) -> Output
-    requires { ⌜ Bounded output ⌝ }
-    ensures { λ r. ⌜ Bounded r ⌝ }
-{
+fn put_anchor_numbers(output: Output, block: &mut [u8; BLOCK_LEN], anchor: Anchor) -> Output {
     let after_pts = put_signed(output, block, anchor.pts).put_byte(block, b':');
     let after_frames = put_field(after_pts, block, anchor.frames_since as u64, b':');
     let after_samples = put_field(after_frames, block, anchor.samples_per_frame as u64, b':');
-    put_decimal(after_samples, block, anchor.sample_rate as u64)
+    after_samples.put_decimal(block, anchor.sample_rate as u64)
 }

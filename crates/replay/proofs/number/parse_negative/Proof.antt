@@ -1,5 +1,5 @@
 -- `parse_negative` is safe: the number is at most 2^63.
-use Rattle.replay.proofs.Words.{read}
+use Rattle.text.proofs.Numbers.{number-read}
 use borrow.Author.Needs.{needs}
 use Rattle.replay.proofs.number.parse_negative.Statement.{statement}
 use Rattle.replay.proofs.number.parse_negative.Tie as tie
@@ -22,7 +22,7 @@ returns c = search needs
 negative-requires : tie.Need-negative-requires
 negative-requires c κs =
     let value = c .before in
-    read (value .value .given .1) (value .before .before .parse-number .ensures) .0
+    number-read _ _ _ (value .value .given .1) (value .before .before .parse-number .ensures) .within
 
 returns-2 : tie.Need-returns-2
 returns-2 c = search needs

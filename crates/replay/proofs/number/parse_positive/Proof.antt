@@ -1,5 +1,5 @@
 -- `parse_positive` is safe: the number fits 63 bits.
-use Rattle.replay.proofs.Words.{read}
+use Rattle.text.proofs.Numbers.{number-read}
 use native.Mathlib.Omega.{arith}
 use borrow.Author.Needs.{needs}
 use Rattle.replay.proofs.number.parse_positive.Statement.{statement}
@@ -20,7 +20,7 @@ returns c = search needs
 cast-t6 : tie.Need-cast-t6
 cast-t6 c =
     let value = c .before in
-    record { sfits = omega (arith, read (value .value .given .1) (value .before .before .parse-number .ensures) .0) }
+    record { sfits = omega (arith, number-read _ _ _ (value .value .given .1) (value .before .before .parse-number .ensures) .within) }
 
 returns-2 : tie.Need-returns-2
 returns-2 c = search needs

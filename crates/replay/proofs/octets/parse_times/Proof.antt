@@ -1,5 +1,6 @@
 -- `parse_times` is safe, and the place that it answers is not before the one that it starts from.
-use Rattle.replay.proofs.Words.{passed, read-before}
+use Rattle.text.proofs.Numbers.{found}
+use Rattle.replay.proofs.Words.{later}
 use native.Mathlib.Omega.{arith}
 use borrow.Author.Needs.{needs}
 use Rattle.replay.proofs.octets.parse_times.Statement.{statement}
@@ -20,9 +21,7 @@ enum-told c = search needs
 returns : tie.Need-returns
 returns c =
     let digits = c .before .before in
-    read-before 18446744073709551615 (c .parse-number .result)
-    (omega (arith, passed (digits .digits .given .1) (digits .before .before .skip .ensures)))
-    (c .parse-number .ensures)
+    later _ _ (c .parse-number .result) (c .parse-number .ensures) (omega (arith, found _ _ _ (digits .digits .given .1) (digits .before .before .skip .ensures) .behind))
 
 returns-2 : tie.Need-returns-2
 returns-2 c = search needs

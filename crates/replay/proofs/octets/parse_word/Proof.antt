@@ -1,5 +1,6 @@
 -- `parse_word` is safe, reads at least one byte of the line, and joins no more bytes than the limit allows.
-use Rattle.replay.proofs.Words.{passed, read}
+use Rattle.text.proofs.Numbers.{found}
+use Rattle.replay.proofs.Words.{behind}
 use mathlib.Core.Path.{ap}
 use native.Mathlib.Omega.{arith}
 use Rattle.replay.specs.Words.{bytesOf}
@@ -51,9 +52,9 @@ returns-4 c =
     let times = c .before .before .before .before .before .before in
     let octets = times .before .before .before .before .before in
     let start = octets .before .before .before in
-    let begun = passed (start .start .given .1) (start .before .before .skip .ensures) in
-    let timed = read (times .times .given .1) (times .before .before .parse-times .ensures) in
-    (omega (arith, ap bytesOf (c .before .count .given .1), c .before .before .before .join-repeated .ensures), omega (arith, octets .parse-octets .ensures, timed .1))
+    let begun = found _ _ _ (start .start .given .1) (start .before .before .skip .ensures) .behind in
+    let timed = behind (times .times .given .1) (times .before .before .parse-times .ensures) in
+    (omega (arith, ap bytesOf (c .before .count .given .1), c .before .before .before .join-repeated .ensures), omega (arith, octets .parse-octets .ensures))
 
 returns-5 : tie.Need-returns-5
 returns-5 c = search needs

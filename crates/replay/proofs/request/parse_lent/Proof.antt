@@ -1,5 +1,5 @@
 -- `parse_lent` is safe, and the lengths that it answers are within the buffers.
-use Rattle.replay.proofs.Words.{read}
+use Rattle.text.proofs.Numbers.{after-read}
 use borrow.Author.Needs.{needs}
 use Rattle.replay.proofs.request.parse_lent.Statement.{statement}
 use Rattle.replay.proofs.request.parse_lent.Tie as tie
@@ -46,9 +46,9 @@ returns-4 c =
     let out = rows .before .before .before .before in
     let pending = out .before .before .before .before in
     record {
-      pending = read (pending .pending .given .1) (pending .before .before .number-after .ensures) .0;
-      out = read (out .out .given .1) (out .before .before .number-after2 .ensures) .0;
-      rows = read (rows .rows .given .1) (rows .before .before .number-after3 .ensures) .0;
+      pending = after-read _ _ _ _ (pending .pending .given .1) (pending .before .before .number-after .ensures) .within;
+      out = after-read _ _ _ _ (out .out .given .1) (out .before .before .number-after2 .ensures) .within;
+      rows = after-read _ _ _ _ (rows .rows .given .1) (rows .before .before .number-after3 .ensures) .within;
     }
 
 pub parse-lent-spec : {M : Type 1} → statement M

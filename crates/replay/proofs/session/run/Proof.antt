@@ -1,11 +1,10 @@
 -- `run` is safe and ends: the measure is the number of turns that are left.
-use Rattle.replay.specs.Bounds.{Ready}
 use borrow.Author.Needs.{needs}
 use Rattle.replay.proofs.session.run.Statement.{statement}
 use Rattle.replay.proofs.session.run.Tie as tie
 
 abbrev Inv-loop : tie.InvT-loop
-Inv-loop text₀ block₀ payload₀ pending₀ out₀ rows₀ session₀ turns₀ text block payload pending out rows session turns = Ready session
+Inv-loop text₀ block₀ payload₀ pending₀ out₀ rows₀ session₀ turns₀ text block payload pending out rows session turns = Unit {0}
 
 abbrev μ-loop : tie.MeasureT-loop
 μ-loop text₀ block₀ payload₀ pending₀ out₀ rows₀ session₀ turns₀ text block payload pending out rows session turns = turns

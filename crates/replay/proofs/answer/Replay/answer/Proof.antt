@@ -1,4 +1,4 @@
--- `Replay::answer` is safe and keeps the output within its block: what a line asks for is within the limits.
+-- `Replay::answer` is safe: what a line asks for is within the limits.
 use mathlib.Core.Path.{subst}
 use Rattle.replay.specs.Bounds.{Allowed}
 use borrow.Author.Needs.{needs}
@@ -15,7 +15,7 @@ push-requires : tie.Need-push-requires
 push-requires c κs =
     let request = c .before .before .before .before .before .before in
     let allowed = subst Allowed (request .request .given .1) (request .before .before .parse-request .ensures) in
-    (search needs, allowed .0, allowed .1)
+    allowed
 
 enum-known-request-2 : tie.Need-enum-known-request-2
 enum-known-request-2 c = search needs
@@ -23,7 +23,7 @@ enum-known-request-2 c = search needs
 flush-requires : tie.Need-flush-requires
 flush-requires c κs =
     let request = c .before .before .before .before .before in
-    (search needs, subst Allowed (request .request2 .given .1) (request .before .before .parse-request .ensures))
+    subst Allowed (request .request2 .given .1) (request .before .before .parse-request .ensures)
 
 enum-known-request-3 : tie.Need-enum-known-request-3
 enum-known-request-3 c = search needs

