@@ -3,11 +3,11 @@
 
 use host::random::Random;
 use splitter::answer::{Answer, Outcome};
-use splitter::call::{Call, Lent, MOST_OUTPUT, MOST_PENDING, MOST_ROWS};
+use splitter::call::{Call, Lent, MOST_OUTPUT, MOST_PAYLOAD, MOST_PENDING, MOST_ROWS};
 use splitter::model::Model;
 use splitter::state::State;
 
-/// A stream is cut into no more payloads than this: the last one has the rest.
+/// A stream is cut into no more payloads than this: the last one has the rest, as far as a line may.
 const MOST_CUTS: usize = 24;
 
 /// The farthest timestamps that a push takes, their neighbours, and the ends of the range.
@@ -66,7 +66,7 @@ impl Talk {
             let size = match n {
                 // Else the small sizes would hardly ever bring a head, without which none is taken.
                 0 if random.below(4) > 0 => size(sizes, random).max(24),
-                MOST_CUTS => rest.len(),
+                MOST_CUTS => rest.len().min(MOST_PAYLOAD),
                 _ => size(sizes, random),
             };
             let (payload, later) = rest.split_at(size.min(rest.len()));
