@@ -21,7 +21,7 @@ pub struct Options {
 type Run = fn(&mut Tally, &Options) -> Outcome;
 
 /// Quick ones first, so that a difference shows soon.
-const RUNS: [(&str, Run); 16] = [
+const RUNS: [(&str, Run); 17] = [
     ("document 01's cases", runs::document_cases),
     ("durations", runs::durations),
     ("codes above 2", runs::other_codes),
@@ -30,6 +30,7 @@ const RUNS: [(&str, Run); 16] = [
     ("head lengths 0 to 16, and 65536", runs::head_lengths),
     ("every sync word", runs::sync_words),
     ("MPEG and ADTS, every byte 1 and 2", runs::second_and_third_bytes),
+    ("two heads a byte apart, every byte 1 and 2", runs::overlapping_heads),
     ("MPEG, every head under the sync word", runs::mpeg_words),
     ("ADTS, every byte 1 to 3 under the sync word", runs::adts_words),
     ("E-AC-3, every byte 2 and 3", runs::eac3_sizes),

@@ -14,6 +14,17 @@ pub fn syntax(code: u32) -> Option<AudioSyntax> {
     }
 }
 
+/// The code of a syntax.
+pub fn code(syntax: AudioSyntax) -> u32 {
+    match syntax {
+        AudioSyntax::Ac3 => 0,
+        AudioSyntax::MpegAudio => 1,
+        AudioSyntax::AacAdts => 2,
+        // As with the kinds.
+        _ => unreachable!("a syntax that document 01 does not number"),
+    }
+}
+
 /// The six numbers of a head that the Rust reads.
 pub fn read(code: u32, head: &[u8]) -> Option<[u32; 6]> {
     let info = syntax(code)?.parse(head)?;

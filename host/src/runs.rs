@@ -127,6 +127,25 @@ pub fn second_and_third_bytes(tally: &mut Tally, _: &Options) -> Outcome {
     Ok(())
 }
 
+/// Every (byte 1, byte 2) behind each first byte of a sync word, with the rest of each of document
+/// 01's heads. The heads at places 0 and 1 are both compared, and must not both read: a splitter that
+/// goes on by a byte from a head that reads finds none there.
+pub fn overlapping_heads(tally: &mut Tally, _: &Options) -> Outcome {
+    for case in cases::heads().filter(|case| case.code <= 2) {
+        let mut bytes = [&[if case.code == 0 { 0x0B } else { 0xFF }], case.head].concat();
+        bytes.resize(9, 0x00);
+        for pair in 0..=u16::MAX {
+            bytes[1..3].copy_from_slice(&pair.to_be_bytes());
+            let first = tally.agreed(case.code, &bytes, RECORD)?;
+            let second = tally.agreed(case.code, &bytes[1..], RECORD)?;
+            if first.is_ok() && second.is_ok() {
+                return Err(difference(case.code, &bytes, "a head at place 0 and one at place 1"));
+            }
+        }
+    }
+    Ok(())
+}
+
 /// Every MPEG head under the sync word.
 pub fn mpeg_words(tally: &mut Tally, _: &Options) -> Outcome {
     for low in 0..1u32 << 20 {

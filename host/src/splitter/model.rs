@@ -52,12 +52,20 @@ impl Model {
         let parts = self.splitter.parts();
         let anchor = |(pts, frames, samples, rate)| Anchor { pts, frames, samples, rate };
         State {
-            code: self.code,
+            code: self.code(),
             pending: self.pending,
             pts: parts.residual_pts,
             anchor: parts.anchor.map(anchor),
-            discarded: parts.discarded,
-            locked: parts.locked,
+            discarded: self.splitter.discarded_bytes(),
+            locked: self.splitter.is_locked(),
+        }
+    }
+
+    /// The code of the Rust's syntax; a code that has none is kept here alone.
+    fn code(&self) -> u32 {
+        match oracle::syntax(self.code) {
+            Some(_) => oracle::code(self.splitter.syntax()),
+            None => self.code,
         }
     }
 
@@ -124,7 +132,7 @@ impl Model {
     fn keep_pending(&mut self) {
         let residual = self.splitter.parts().residual;
         self.buffer[..residual.len()].copy_from_slice(&residual);
-        self.pending = residual.len() as u64;
+        self.pending = self.splitter.pending_bytes() as u64;
     }
 }
 
