@@ -4,7 +4,7 @@ ghost use Prim.Native.Nat.{_+_, _-_, _≤_};
 ghost use lib.IntN.{natAbs};
 ghost use lib.ListN.{length, replicate};
 ghost use Rattle.sheet.specs.Layout.{decimal, space};
-ghost use Rattle.sheet.specs.Step.{put, Room};
+ghost use Rattle.sheet.specs.Step.{put};
 
 // How far a number is from 0. A negative one goes by way of -1 - x, which fits also where x is -2^63.
 pub fn magnitude(x: i64) -> u64

@@ -13,7 +13,6 @@ use borrow.Author.Tests.{lt-ltb, le-ltb, le-leb, lt-leb}
 use Rattle.heads.specs.declared.info.AudioFrameInfo.{AudioFrameInfo}
 use Rattle.heads.specs.declared.info.Head.{Head}
 use Rattle.heads.specs.declared.info.Head.the-variants.{Read, Refused}
-use Rattle.heads.specs.declared.info.Refusal.{Refusal}
 use Rattle.splitter.specs.Cut.{Reader, Cut, lost, given, kept, short, unread, place, walk}
 use Rattle.splitter.specs.Demand.{join, Whole, Each, infoOr}
 use Rattle.splitter.proofs.Lists.{le-or-lt, front-of, back-of, drop-pred}
@@ -60,10 +59,6 @@ module _ (n : ℕ) (rd : Reader) where
       go (Read i) u = absurd (let z : _≡_ {A = ℕ} 0 1 = cc in omega arith)
       go (Refused g) u = refl
 
-  -- the same for a head that is refused
-  pub walk-refused : (l : List ℕ) (g : Refusal) → 0 < n → n ≤ length l → rd l ≡ Refused g → walk n rd l 0 ≡ lost true (getD l 0 0) ∷ walk n rd (drop 1 l) 0
-  walk-refused l g z h e = walk-unread l z h (rw e)
-
   -- a byte is given up: a head reads there with a length below the need
   pub walk-below : (l : List ℕ) (i : AudioFrameInfo) → 0 < n → n ≤ length l → rd l ≡ Read i → i .«frame_len» < n
       → walk n rd l 0 ≡ lost false (getD l 0 0) ∷ walk n rd (drop 1 l) 0
@@ -76,10 +71,6 @@ module _ (n : ℕ) (rd : Reader) where
   walk-false [] i z h e a b s u = absurd (omega arith)
   walk-false (x ∷ l) i z h e a b s u =
       rw (le-ltb (length (x ∷ l)) n h, e, le-ltb (i .«frame_len») n a, le-ltb (length (x ∷ l)) (i .«frame_len») b, le-leb n (length (x ∷ l) - i .«frame_len») (rw length-drop at s), u)
-
-  -- nothing is left
-  pub walk-none : walk n rd [] 0 ≡ []
-  walk-none = refl
 
   -- the last cut: x bytes of a frame f that is longer
   abbrev pub lastIf : Bool → List ℕ → List ℕ → List Cut

@@ -214,10 +214,6 @@ module _ (x : AudioSyntax) (s : AudioFrameSplitter) (e : Event) (known : syntaxO
       push-by s e (λ o. o .answer ≡ done true r b → P o) x known (λ k a. absurd (clash (suc k) true r b a)) (λ q t a. absurd (idle-clash 0 0 r b a)) (λ q t a. h q)
       answered
 
-  -- pending bytes and payload, in order, are the bytes of the cuts
-  pub push-bytes : take (s .pending) (e .pend) ++ e .payload ≡ all-of (cutsBy x s e)
-  push-bytes = joined-cut x s e
-
   -- the count goes up by the bytes given up
   pub push-discarded : (push s e) .state .discarded ≡ s .discarded + losses (cutsBy x s e)
   push-discarded = when-taken (λ o. o .state .discarded ≡ s .discarded + losses (cutsBy x s e)) (λ q. refl)
@@ -353,7 +349,3 @@ module _ (s : AudioFrameSplitter) (e : Event) where
   -- of the pending buffer it changes nothing
   pub flush-pend-same : (flush s e) .pend ≡ e .pend
   flush-pend-same = flush-cases s e (λ o. o .pend ≡ e .pend) (λ k. refl) (λ x g known q h. refl) (λ x i known q h. refl)
-
-  -- nor its length
-  pub flush-pend-length : length ((flush s e) .pend) ≡ length (e .pend)
-  flush-pend-length = ap length flush-pend-same
