@@ -3,6 +3,7 @@ use libc::STDERR_FILENO;
 use libc::STDOUT_FILENO;
 ghost use mathlib.Core.Path.{_≡_};
 ghost use Prim.Native.Nat.{_+_, _≤_};
+ghost use Rattle.cutsheet.specs.Glue.{noOutput, Emptied, Roomed};
 
 pub const TEXT_LEN: usize = 262144;
 
@@ -18,7 +19,7 @@ pub struct Output {
 
 impl Output {
     pub fn new() -> Self
-        ensures { λ r. ⌜ r .len ≤ 262144 ⌝ }
+        ensures { λ r. ⌜ r ≡ noOutput ⌝ }
     {
         Output {
             len: 0,
@@ -29,7 +30,7 @@ impl Output {
     // Makes room for the lines of a payload.
     pub fn with_room(self, text: &[u8; TEXT_LEN]) -> Self
         requires { ⌜ self .len ≤ 262144 ⌝ }
-        ensures { λ r. ⌜ r .len + 110565 ≤ 262144 ⌝ }
+        ensures { λ r. ⌜ (r .len + 110565 ≤ 262144) × Roomed self r ⌝ }
     {
         if TEXT_LEN - self.len < LINES_MAX {
             return self.written(text);
@@ -39,7 +40,7 @@ impl Output {
 
     pub fn written(self, text: &[u8; TEXT_LEN]) -> Self
         requires { ⌜ self .len ≤ 262144 ⌝ }
-        ensures { λ r. ⌜ r .len ≡ 0 ⌝ }
+        ensures { λ r. ⌜ Emptied self r ⌝ }
     {
         if self.failed {
             return Output {

@@ -15,9 +15,10 @@ use sheet::first_line;
 ghost use mathlib.Core.Path.{_≡_};
 ghost use Prim.Native.Nat.{_+_, _-_, _≤_, _<_, min};
 ghost use lib.ListN.{length};
-ghost use Rattle.sheet.specs.Sheet.{payloadSize, endOf};
-ghost use Rattle.sheet.specs.Step.{endMost};
+ghost use Rattle.sheet.specs.Sheet.{payloadSize, payloadsOf, endOf};
+ghost use Rattle.sheet.specs.Step.{put, lent, endMost};
 ghost use Rattle.cutsheet.specs.Bounds.{Bounded, Payload, Roomy, Within};
+ghost use Rattle.cutsheet.specs.Glue.{CutFrom, PayloadCut, PayloadsCut, NextCut, newSession, closedAt, usableOf, afterRead};
 
 const FIRST_LINE_LEN: usize = 2;
 
@@ -82,7 +83,7 @@ fn print_sheet(sheet: CutSheet) {
 
 impl Session {
     fn new(sheet: CutSheet) -> Self
-        ensures { λ r. ⌜ Bounded (r .output) ⌝ }
+        ensures { λ r. ⌜ r ≡ newSession sheet ⌝ }
     {
         Session {
             sheet,
@@ -103,6 +104,7 @@ impl Session {
     ) -> Self
         requires { ⌜ Bounded (self .output) ⌝ }
         ensures { λ r. ⌜ Bounded (r .output) ⌝ }
+        ensures { λ r. ⌜ NextCut self (now (block .exit)) (lent (now (pending .entry)) (now (out .entry)) (now (rows .entry)) (now (text .entry))) r (lent (now (pending .exit)) (now (out .exit)) (now (rows .exit)) (now (text .exit))) ⌝ }
     {
         let filled = fill(block);
         let len = usable(filled);
@@ -113,8 +115,7 @@ impl Session {
 
     // A block that is not full is the last one.
     fn after_read(mut self, filled: Filled) -> Self
-        requires { ⌜ Bounded (self .output) ⌝ }
-        ensures { λ r. ⌜ Bounded (r .output) ⌝ }
+        ensures { λ r. ⌜ r ≡ afterRead self filled ⌝ }
     {
         if filled.len < BLOCK_LEN {
             self.open = false;
@@ -133,6 +134,7 @@ impl Session {
     ) -> Self
         requires { ⌜ Bounded (self .output) ⌝ }
         ensures { λ r. ⌜ Bounded (r .output) ⌝ }
+        ensures { λ r. ⌜ PayloadsCut self (lent (now (pending .entry)) (now (out .entry)) (now (rows .entry)) (now (text .entry))) (payloadsOf (now (block .entry))) r (lent (now (pending .exit)) (now (out .exit)) (now (rows .exit)) (now (text .exit))) ⌝ }
     {
         let mut session = self;
         let mut at = 0;
@@ -155,6 +157,7 @@ impl Session {
     ) -> Self
         requires { ⌜ Bounded (self .output) × Payload (length (now payload)) ⌝ }
         ensures { λ r. ⌜ Bounded (r .output) ⌝ }
+        ensures { λ r. ⌜ PayloadCut self (now (payload .entry)) (lent (now (pending .entry)) (now (out .entry)) (now (rows .entry)) (now (text .entry))) r (lent (now (pending .exit)) (now (out .exit)) (now (rows .exit)) (now (text .exit))) ⌝ }
     {
         let output = self.output;
         let roomy = output.with_room(text);
@@ -180,8 +183,7 @@ impl Session {
 
     // The sheet ends at a payload that is refused.
     fn closed(self, output: Output) -> Self
-        requires { ⌜ Bounded output ⌝ }
-        ensures { λ r. ⌜ Bounded (r .output) ⌝ }
+        ensures { λ r. ⌜ r ≡ closedAt (self .sheet) output ⌝ }
     {
         let sheet = self.sheet;
         Session {
@@ -217,7 +219,7 @@ impl Session {
 // How many bytes of a block to cut. Where a read failed, a payload that is not whole is left alone: with the rest of it, it might be cut
 // otherwise.
 fn usable(filled: Filled) -> usize
-    ensures { λ r. ⌜ r ≤ filled .len ⌝ }
+    ensures { λ r. ⌜ r ≡ usableOf filled ⌝ }
 {
     let len = filled.len;
     if filled.failed {
@@ -250,6 +252,7 @@ fn cut_from(
     requires { ⌜ at ≤ length (now text) ⌝ }
     requires { ⌜ Roomy (length (now pending)) (length (now out)) (length (now rows)) (length (now text) - at) ⌝ }
     ensures { λ r. ⌜ Within (length (now (text .entry)) - at) (r .answer) ⌝ }
+    ensures { λ r. ⌜ CutFrom sheet (now (payload .entry)) (lent (now (pending .entry)) (now (out .entry)) (now (rows .entry)) (now (text .entry))) at r (lent (now (pending .exit)) (now (out .exit)) (now (rows .exit)) (now (text .exit))) ⌝ }
 {
     sheet.cut(payload, pending, out, rows, &mut text[at..])
 }
@@ -258,6 +261,7 @@ fn cut_from(
 fn finish_from(sheet: CutSheet, text: &mut [u8], at: usize) -> usize
     requires { ⌜ at + endMost ≤ length (now text) ⌝ }
     ensures { λ r. ⌜ (r ≡ at + length (endOf (sheet .splitter))) × (r ≤ length (now (text .entry))) ⌝ }
+    ensures { λ _. ⌜ now (text .exit) ≡ put at (endOf (sheet .splitter)) (now (text .entry)) ⌝ }
 {
     match sheet.finish(&mut text[at..]) {
         SheetAnswer::Written(count) => at + count,

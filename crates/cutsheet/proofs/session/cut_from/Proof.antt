@@ -1,10 +1,11 @@
--- `cut_from` is safe, and the lines end within the text.
+-- `cut_from` is a step over the text from the place on, and the lines end within the text.
 use mathlib.Core.Path.{subst}
 use Prim.Native.Nat.{ℕ, _-_}
 use lib.ListN.{length, take, drop}
 use Rattle.sheet.specs.Step.{lent}
 use Rattle.cutsheet.specs.Bounds.{Within}
 use Rattle.cutsheet.proofs.Room.{step-room, rest-length}
+use Rattle.cutsheet.proofs.Glue.{passed-from}
 use borrow.Author.Needs.{needs}
 use Rattle.cutsheet.proofs.session.cut_from.Statement.{statement}
 use Rattle.cutsheet.proofs.session.cut_from.Tie as tie
@@ -36,13 +37,18 @@ same-length-4 c = search needs
 returns : tie.Need-returns
 returns c =
     let cut = c .before .before .before .before .before .before .before in
-    let args = cut .before .before .before .before .before .before .before .before .before .args in
+    let start = cut .before .before .before .before .before .before .before .before .before in
+    let args = start .args in
     let text = args .text .now in
     let rest = take (length text - args .at) (drop (args .at) text) in
-    subst (λ (most : ℕ). Within most (cut .cut .result .answer)) (rest-length text (args .at))
-    (step-room (cut .cut .result .answer) (args .sheet) (args .payload .now)
-    (lent (args .pending .now) (args .out .now) (args .rows .now) rest)
-    (cut .cut .ensures .0) (cut .cut .ensures .1 .1 .1 .1 .1) (cut .cut .kept .1 .1 .1 .1 .1 .0))
+    let last = cut .cut .last .1 .1 in (
+      subst (λ (most : ℕ). Within most (cut .cut .result .answer)) (rest-length text (args .at))
+          (step-room (cut .cut .result .answer) (args .sheet) (args .payload .now)
+          (lent (args .pending .now) (args .out .now) (args .rows .now) rest)
+          (cut .cut .ensures .0) (cut .cut .ensures .1 .1 .1 .1 .1) (cut .cut .kept .1 .1 .1 .1 .1 .0)),
+      passed-from (args .sheet) (args .payload .now) (lent (args .pending .now) (args .out .now) (args .rows .now) text) (args .at)
+          (cut .cut .result) (last .0) (last .1 .0) (last .1 .1 .0) (last .1 .1 .1 .0) (start .pre .1 .0) (cut .cut .ensures),
+    )
 
 pub cut-from-spec : {M : Type 1} → statement M
 cut-from-spec =

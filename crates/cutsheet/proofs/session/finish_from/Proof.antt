@@ -1,4 +1,4 @@
--- `finish_from` is safe. The last line is written, so that the call is not refused, and ends within the text.
+-- `finish_from` puts the last line at the place: the call is not refused, and the line ends within the text.
 use mathlib.Core.Path.{_≡_, subst}
 use Prim.Native.Nat.{ℕ, _-_}
 use native.Mathlib.Omega.{arith}
@@ -7,6 +7,7 @@ use Rattle.sheet.specs.Sheet.{endOf}
 use Rattle.sheet.specs.declared.sheet.SheetAnswer.the-variants.{Written}
 use Rattle.cutsheet.specs.Bounds.{Within}
 use Rattle.cutsheet.proofs.Room.{finish-room, finished, rest-length, count-room}
+use Rattle.cutsheet.proofs.Glue.{end-from}
 use borrow.Author.Needs.{needs}
 use Rattle.cutsheet.proofs.session.finish_from.Statement.{statement}
 use Rattle.cutsheet.proofs.session.finish_from.Tie as tie
@@ -56,9 +57,12 @@ same-length c = search needs
 returns : tie.Need-returns
 returns c =
     let finish = c .before .before .before .before .before in
-    let count : c .before .count .given .0 .0 ≡ length (endOf (finish .before .before .before .args .sheet .splitter)) =
-    cc (c .before .count .given .1, whole finish) in
-    (omega arith, omega (arith, count-room (c .before .count .given .1) (fits finish)))
+    let start = finish .before .before .before in
+    let count : c .before .count .given .0 .0 ≡ length (endOf (start .args .sheet .splitter)) =
+    cc (c .before .count .given .1, whole finish) in (
+      (omega arith, omega (arith, count-room (c .before .count .given .1) (fits finish))),
+      end-from (start .args .sheet) (start .args .text .now) (finish .finish .last .1 .0) (start .args .at) (start .pre) (finish .finish .ensures .1),
+    )
 
 same-length-2 : tie.Need-same-length-2
 same-length-2 c = search needs

@@ -1,5 +1,8 @@
 -- `print_sheet` is safe and ends: the measure is the number of turns that are left.
+use mathlib.Core.Path.{ap}
+use native.Mathlib.Omega.{arith}
 use Rattle.cutsheet.specs.Bounds.{Bounded}
+use Rattle.cutsheet.specs.declared.session.Session.{Session}
 use borrow.Author.Needs.{needs}
 use Rattle.cutsheet.proofs.session.print_sheet.Statement.{statement}
 use Rattle.cutsheet.proofs.session.print_sheet.Tie as tie
@@ -15,7 +18,7 @@ new-requires : tie.Need-new-requires Inv-loop μ-loop
 new-requires c κs = search needs
 
 loop-holds : tie.Need-loop-holds Inv-loop μ-loop
-loop-holds c = search needs
+loop-holds c = omega (arith, ap (λ (s : Session). s .output .len) (c .new .ensures))
 
 cut-next-requires : tie.Need-cut-next-requires Inv-loop μ-loop
 cut-next-requires c κs = search needs

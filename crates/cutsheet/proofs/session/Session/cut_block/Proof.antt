@@ -1,20 +1,30 @@
--- `Session::cut_block` is safe, ends, and keeps the output within the text. The measure is what is left of the block.
+-- `Session::cut_block` cuts the block's payloads one after the other, ends, and keeps the output within the text. The measure is what is left
+-- of the block.
 use Prim.Native.Nat.{_-_, _≤_}
 use lib.ListN.{length}
+use Rattle.sheet.specs.Step.{Lent, lent}
 use Rattle.cutsheet.specs.Bounds.{Bounded}
+use Rattle.cutsheet.proofs.Glue.{Reached, reach-next, reach-end, reach-closed}
 use borrow.Author.Needs.{needs}
 use Rattle.cutsheet.proofs.session.Session.cut_block.Statement.{statement}
 use Rattle.cutsheet.proofs.session.Session.cut_block.Tie as tie
 
 abbrev Inv-loop : tie.InvT-loop
 Inv-loop block pending₀ out₀ rows₀ text₀ session₀ at₀ pending out rows text session at =
-    (at ≤ length block) × Bounded (session .output)
+    (at ≤ length block)
+    × (Bounded (session .output) × Reached session₀ (lent pending₀ out₀ rows₀ text₀) block at session (lent pending out rows text))
 
 abbrev μ-loop : tie.MeasureT-loop
 μ-loop block pending₀ out₀ rows₀ text₀ session₀ at₀ pending out rows text session at = length block - at
 
+abbrev was : tie.Start Inv-loop μ-loop → Lent
+was s = lent (s .args .pending .now) (s .args .out .now) (s .args .rows .now) (s .args .text .now)
+
+abbrev now-at : tie.At-loop Inv-loop μ-loop → Lent
+now-at l = lent (l .loop .pending) (l .loop .out) (l .loop .rows) (l .loop .text)
+
 loop-holds : tie.Need-loop-holds Inv-loop μ-loop
-loop-holds c = search needs
+loop-holds c = (search needs, (search needs, λ r e h. h))
 
 payload-end-requires : tie.Need-payload-end-requires Inv-loop μ-loop
 payload-end-requires c κs = search needs
@@ -35,13 +45,38 @@ loop-less : tie.Need-loop-less Inv-loop μ-loop
 loop-less c = search needs
 
 loop-again : tie.Need-loop-again Inv-loop μ-loop
-loop-again c = search needs
+loop-again c =
+    let l = c .before .before .before .before .before .before .before .before .before in
+    let start = l .before .before in
+    let end = c .before .before .before .before .before .before .payload-end in
+    let last = c .cut-payload .last .1 .1 in (
+      search needs,
+      (
+        search needs,
+        reach-next (start .args .self) (l .loop .session) (was start) (now-at l) (start .args .block .now) (l .loop .at) (l .loop .inv .1 .1)
+            (end .result) (c .before .before .before .before .before .before .before .before .loop-test .taken) (end .ensures)
+            (c .before .before .before .before .before .before .before .if1 .taken) (c .cut-payload .result)
+            (lent (last .0) (last .1 .0) (last .1 .1 .0) (last .1 .1 .1 .0)) (c .cut-payload .ensures .1),
+      ),
+    )
 
 returns : tie.Need-returns Inv-loop μ-loop
-returns c = search needs
+returns c =
+    let l = c .before .before in
+    let start = l .before .before in (
+      search needs,
+      reach-closed (start .args .self) (l .loop .session) (was start) (now-at l) (start .args .block .now) (l .loop .at) (l .loop .inv .1 .1)
+          (c .if1 .left),
+    )
 
 returns-2 : tie.Need-returns-2 Inv-loop μ-loop
-returns-2 c = search needs
+returns-2 c =
+    let l = c .before in
+    let start = l .before .before in (
+      search needs,
+      reach-end (start .args .self) (l .loop .session) (was start) (now-at l) (start .args .block .now) (l .loop .at) (l .loop .inv .1 .1)
+          (c .loop-test .left),
+    )
 
 pub cut-block-spec : {M : Type 1} → statement M
 cut-block-spec =
