@@ -1,27 +1,27 @@
 -- The glue: a step over the text from a place on, the last line there, and the payloads of a block one after the other. Assumes nothing.
 use mathlib.Core.Path.{_≡_, refl, subst, sym, ap, _∙_}
-use mathlib.Core.Bool.{Bool, true, false, cond}
+use mathlib.Core.Bool.{Bool, true, false, cond, true≢false}
 use mathlib.Core.List.{List, [], _∷_, _++_}
-use Prim.Native.Nat.{ℕ, _+_, _-_, _%_, _≤_, _<_, min}
+use Prim.Native.Nat.{ℕ, suc, _+_, _-_, _/_, _%_, _≤_, _<_, min}
 use native.Mathlib.Omega.{arith}
 use borrow.Author.Tests.{ltb-true, ltb-false, le-ltb}
 use borrow.Rule.Slice.PartMut.{putMid}
 use lib.Dec.{ltb}
-use lib.IntN.{ℤ}
-use lib.ListN.{length, take, drop, length-drop, drop-of-length-le}
+use lib.IntN.{ℤ, pos}
+use lib.ListN.{length, take, drop, replicate, length-drop, length-replicate, drop-of-length-le}
 use lib.Seq.{take-all, drop-drop}
-use Rattle.splitter.specs.Answer.{refusalNumber}
-use Rattle.splitter.specs.Push.{over}
+use Rattle.splitter.specs.Answer.{Answer, done, refusalNumber}
+use Rattle.splitter.specs.Push.{Outcome, over, rowWidth}
 use Rattle.splitter.specs.declared.answer.SplitterRefusal.{SplitterRefusal}
 use Rattle.splitter.proofs.Buffers.{put-tail, write-after}
-use Rattle.sheet.specs.Sheet.{payloadSize, payloadsOf, endOf}
-use Rattle.sheet.specs.Step.{Wrote, refused, written, put, sheetAnswer, Lent, lent, Step, stay, step, endMost, endIf, finish}
+use Rattle.sheet.specs.Sheet.{payloadSize, outSize, rowsSize, timeOf, payloadsOf, endOf}
+use Rattle.sheet.specs.Step.{Wrote, refused, written, put, sheetAnswer, Lent, lent, Step, lineLength, stepBy, stepIf, pushOf, tightText, step, endMost, endIf, finish}
 use Rattle.sheet.specs.declared.sheet.CutLines.{CutLines}
 use Rattle.sheet.specs.declared.sheet.CutSheet.{CutSheet}
 use Rattle.sheet.specs.declared.sheet.SheetAnswer.the-variants.{Written, Refused}
-use Rattle.sheet.proofs.Sheets.{payloads-none, payloads-next}
+use Rattle.sheet.proofs.Sheets.{Same, push-same, AllPayloads, payloads-none, payloads-next}
 use Rattle.sheet.proofs.Stepping.{Gives, step-stays}
-use Rattle.cutsheet.specs.Glue.{Roomed, stepFrom, Passed, CutFrom, closedAt, sessionBy, PayloadCut, PayloadsCut, all, closed, next, usableOf}
+use Rattle.cutsheet.specs.Glue.{Roomed, stepFrom, Passed, CutFrom, Sized, closedAt, sessionBy, PayloadCut, PayloadsCut, all, closed, next, State, stateOf, stateBy, stateAfter, statesAfter, StateCut, usableOf}
 use Rattle.cutsheet.specs.declared.input.Filled.{Filled}
 use Rattle.cutsheet.specs.declared.output.Output.{Output}
 use Rattle.cutsheet.specs.declared.session.Session.{Session}
@@ -74,10 +74,11 @@ end-from c text last at h e =
 -- ---- one payload
 
 module _ (s : Session) (p : List ℕ) (was is : Lent) (o : Output) (r : CutLines) (room : Roomed (s .output) o)
-    (cut : CutFrom (s .sheet) p was (o .len) r is) where
+    (cut : CutFrom (s .sheet) p was (o .len) r is) (sized : Sized was) where
   pub payload-written : (n : ℕ) → r .answer ≡ Written n → PayloadCut s p was (sessionBy (written n) (r .sheet) o) is
   payload-written n e =
       record {
+        sized = sized;
         output = o;
         room = room;
         session =
@@ -92,6 +93,7 @@ module _ (s : Session) (p : List ℕ) (was is : Lent) (o : Output) (r : CutLines
       let a : refused (refusalNumber g) ≡ stepFrom (s .sheet) p was (o .len) .answer = sym (ap sheetAnswer e) ∙ cut .answer in
       let same = step-stays (s .sheet) p (lent (was .pend) (was .out) (was .rows) (drop (o .len) (was .text))) (refusalNumber g) (sym a) .0 in
       record {
+        sized = sized;
         output = o;
         room = room;
         session =
@@ -151,6 +153,81 @@ module _ (s₀ s : Session) (b₀ b : Lent) (block : List ℕ) (at : ℕ) (come 
 
   pub reach-closed : s .«open» ≡ false → PayloadsCut s₀ b₀ (payloadsOf block) s b
   reach-closed h = come s b (closed h)
+
+-- ---- the state after payloads
+
+-- what the output, the rows and the text hold does not count
+module _ (c : CutSheet) (p b o o′ : List ℕ) (r r′ : List ℤ) (t t′ : List ℕ) (hp : length p ≤ payloadSize)
+    (ho : outSize ≤ length o) (ho′ : outSize ≤ length o′) (hr : rowsSize ≤ length r) (hr′ : rowsSize ≤ length r′)
+    (ht : tightText (length t) (length r) ≡ false) (ht′ : tightText (length t′) (length r′) ≡ false) where
+  state-same : stateBy (step c p (lent b o r t)) ≡ stateBy (step c p (lent b o′ r′ t′))
+  unfolding step
+  state-same =
+      ap (λ (x : Bool). stateBy (stepIf x c (lent b o r t) u)) ht
+      ∙ pick (u .answer)
+      ∙ ap (λ (a : Answer). stateBy (stepBy a c (lent b o′ r′ t′) v)) (same .answer)
+      ∙ ap (λ (x : Bool). stateBy (stepIf x c (lent b o′ r′ t′) v)) (sym ht′)
+    where
+      u : Outcome
+      u = pushOf c p (lent b o r t)
+
+      v : Outcome
+      v = pushOf c p (lent b o′ r′ t′)
+
+      same : Same u v
+      same = push-same (c .splitter) p (timeOf (c .begun)) b o o′ r r′ hp ho ho′ hr hr′
+
+      pick : (a : Answer) → stateBy (stepBy a c (lent b o r t) u) ≡ stateBy (stepBy a c (lent b o′ r′ t′) v)
+      pick (Answer.refused k) = refl
+      pick (done x n m) = cc (same .state, same .pend)
+
+full {ℓ} : {A : Type ℓ} (n : ℕ) (a : A) → n ≤ length (replicate n a)
+full n a = omega (arith, length-replicate n a)
+
+room-tight : (t r x : ℕ) (y : ℤ) → tightText t r ≡ false → tightText (length (replicate t x)) (length (replicate r y)) ≡ false
+room-tight t r x y e = rw (length-replicate t x, length-replicate r y) e
+
+session-sheet : (a : Wrote) (c : CutSheet) (o : Output) → sessionBy a c o .sheet ≡ c
+session-sheet (refused k) c o = refl
+session-sheet (written n) c o = refl
+
+-- there is room behind the output
+roomed-most : (was is : Output) → Roomed was is → is .len + 110565 ≤ 262144
+roomed-most was is room = go (ltb 262144 (was .len + 110565)) refl
+  where
+    go : (t : Bool) → ltb 262144 (was .len + 110565) ≡ t → is .len + 110565 ≤ 262144
+    go true q = omega (arith, room .emptied (ltb-true 262144 (was .len + 110565) q) .none)
+    go false q =
+        let h : was .len + 110565 ≤ 262144 = ltb-false 262144 (was .len + 110565) q in
+        omega (arith, ap (λ (o : Output). o .len) (room .kept h))
+
+payload-state : {s t : Session} {p : List ℕ} {was is : Lent} → PayloadCut s p was t is → length p ≤ payloadSize
+    → stateOf t is ≡ stateAfter (stateOf s was) p
+unfolding stateAfter
+payload-state {s} {t} {p} {was} {is} cut hp =
+    let at = cut .output .len in
+    let x = stepFrom (s .sheet) p was at in
+    let tight : tightText (length (drop at (was .text))) (length (was .rows)) ≡ false =
+    le-ltb (length (drop at (was .text)) / lineLength) (length (was .rows) / rowWidth)
+    (omega (arith, roomed-most (s .output) (cut .output) (cut .room), cut .sized .rows, cut .sized .text, length-drop at (was .text))) in
+    let sheet : t .sheet ≡ x .state = ap (λ (z : Session). z .sheet) (cut .session) ∙ session-sheet (x .answer) (x .state) (cut .output) in
+    let here : stateOf t is ≡ stateBy x = cc (sheet, cut .buffers .pend) in
+    here
+    ∙ state-same (s .sheet) p (was .pend) (was .out) (replicate outSize 0) (was .rows) (replicate rowsSize (pos 0)) (drop at (was .text))
+    (replicate 110565 0) hp (omega (arith, cut .sized .out)) (full {A = ℕ} outSize 0) (omega (arith, cut .sized .rows)) (full rowsSize (pos 0))
+    tight (room-tight 110565 rowsSize 0 (pos 0) refl)
+
+-- of payloads one after the other
+pub payloads-state : {s r : Session} {b e : Lent} {ps : List (List ℕ)} → PayloadsCut s b ps r e → AllPayloads ps → StateCut s b ps r e
+payloads-state all small = record { count = 0; state = refl; whole = λ h. refl }
+payloads-state (closed h) small = record { count = 0; state = refl; whole = λ o. absurd (true≢false (sym o ∙ h)) }
+payloads-state (next {p = p} {ps = ps} o cut rest) small =
+    let more = payloads-state rest (small .1) in
+    record {
+      count = suc (more .count);
+      state = more .state ∙ ap (λ (z : State). statesAfter z (take (more .count) ps)) (payload-state cut (small .0 .1));
+      whole = λ h. ap (λ (l : List (List ℕ)). p ∷ l) (more .whole h);
+    }
 
 -- ---- what was read
 

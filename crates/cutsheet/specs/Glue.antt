@@ -5,8 +5,9 @@ use mathlib.Core.Bool.{Bool, true, false, not, cond}
 use mathlib.Core.List.{List, [], _∷_, _++_}
 use Prim.Native.Nat.{ℕ, _+_, _-_, _%_, _≤_, _<_}
 use lib.Dec.{ltb}
-use lib.ListN.{length, take, drop}
-use Rattle.sheet.specs.Sheet.{payloadSize, payloadsOf}
+use lib.IntN.{pos}
+use lib.ListN.{length, take, drop, replicate}
+use Rattle.sheet.specs.Sheet.{payloadSize, outSize, rowsSize, payloadsOf}
 use Rattle.sheet.specs.Step.{Wrote, refused, written, sheetAnswer, Lent, lent, Step, step}
 use Rattle.sheet.specs.declared.sheet.CutLines.{CutLines}
 use Rattle.sheet.specs.declared.sheet.CutSheet.{CutSheet}
@@ -48,6 +49,12 @@ pub record CutFrom (c : CutSheet) (payload : List ℕ) (was : Lent) (at : ℕ) (
   pub state : r .sheet ≡ stepFrom c payload was at .state
   pub buffers : Passed (stepFrom c payload was at) at was is
 
+-- the buffers of the program are as long as their types say
+pub record Sized (b : Lent) : Type 0 where
+  pub out : length (b .out) ≡ outSize
+  pub rows : length (b .rows) ≡ rowsSize
+  pub text : length (b .text) ≡ 262144
+
 -- ---- a session
 
 abbrev pub newSession : CutSheet → Session
@@ -65,6 +72,7 @@ sessionBy (written n) c o =
 
 -- a payload: one step, its lines behind the output for which there is room
 pub record PayloadCut (s : Session) (payload : List ℕ) (was : Lent) (r : Session) (is : Lent) : Type 0 where
+  pub sized : Sized was
   pub output : Output
   pub room : Roomed (s .output) output
   pub session :
@@ -77,6 +85,33 @@ pub data PayloadsCut : Session → Lent → List (List ℕ) → Session → Lent
   closed : {s : Session} {b : Lent} {ps : List (List ℕ)} → s .«open» ≡ false → PayloadsCut s b ps s b
   next : {s t r : Session} {b d e : Lent} {p : List ℕ} {ps : List (List ℕ)} → s .«open» ≡ true → PayloadCut s p b t d → PayloadsCut t d ps r e
       → PayloadsCut s b (p ∷ ps) r e
+
+-- ---- what passes from payload to payload
+
+-- the sheet's state and the pending buffer
+pub record State : Type 0 where
+  pub sheet : CutSheet
+  pub pend : List ℕ
+
+abbrev pub stateOf : Session → Lent → State
+stateOf s b = record { sheet = s .sheet; pend = b .pend }
+
+abbrev pub stateBy : Step → State
+stateBy x = record { sheet = x .state; pend = x .pend }
+
+-- what the other buffers hold does not count, if only they have room: these are the shortest
+unfoldable pub stateAfter : State → List ℕ → State
+stateAfter a p = stateBy (step (a .sheet) p (lent (a .pend) (replicate outSize 0) (replicate rowsSize (pos 0)) (replicate 110565 0)))
+
+abbrev pub statesAfter : State → List (List ℕ) → State
+statesAfter a [] = a
+statesAfter a (p ∷ ps) = statesAfter (stateAfter a p) ps
+
+-- it is the state after the first of the payloads, and after all if the session is open
+pub record StateCut (s : Session) (was : Lent) (ps : List (List ℕ)) (r : Session) (is : Lent) : Type 0 where
+  pub count : ℕ
+  pub state : stateOf r is ≡ statesAfter (stateOf s was) (take count ps)
+  pub whole : r .«open» ≡ true → take count ps ≡ ps
 
 -- ---- what was read
 

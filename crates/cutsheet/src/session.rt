@@ -18,7 +18,7 @@ ghost use lib.ListN.{length};
 ghost use Rattle.sheet.specs.Sheet.{payloadSize, payloadsOf, endOf};
 ghost use Rattle.sheet.specs.Step.{put, lent, endMost};
 ghost use Rattle.cutsheet.specs.Bounds.{Bounded, Payload, Roomy, Within};
-ghost use Rattle.cutsheet.specs.Glue.{CutFrom, PayloadCut, PayloadsCut, NextCut, newSession, closedAt, usableOf, afterRead};
+ghost use Rattle.cutsheet.specs.Glue.{CutFrom, PayloadCut, PayloadsCut, StateCut, NextCut, newSession, closedAt, usableOf, afterRead};
 
 const FIRST_LINE_LEN: usize = 2;
 
@@ -135,6 +135,7 @@ impl Session {
         requires { ⌜ Bounded (self .output) ⌝ }
         ensures { λ r. ⌜ Bounded (r .output) ⌝ }
         ensures { λ r. ⌜ PayloadsCut self (lent (now (pending .entry)) (now (out .entry)) (now (rows .entry)) (now (text .entry))) (payloadsOf (now (block .entry))) r (lent (now (pending .exit)) (now (out .exit)) (now (rows .exit)) (now (text .exit))) ⌝ }
+        ensures { λ r. ⌜ StateCut self (lent (now (pending .entry)) (now (out .entry)) (now (rows .entry)) (now (text .entry))) (payloadsOf (now (block .entry))) r (lent (now (pending .exit)) (now (out .exit)) (now (rows .exit)) (now (text .exit))) ⌝ }
     {
         let mut session = self;
         let mut at = 0;

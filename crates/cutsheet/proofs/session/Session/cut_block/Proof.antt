@@ -3,8 +3,9 @@
 use Prim.Native.Nat.{_-_, _≤_}
 use lib.ListN.{length}
 use Rattle.sheet.specs.Step.{Lent, lent}
+use Rattle.sheet.proofs.Sheets.{payloads-small}
 use Rattle.cutsheet.specs.Bounds.{Bounded}
-use Rattle.cutsheet.proofs.Glue.{Reached, reach-next, reach-end, reach-closed}
+use Rattle.cutsheet.proofs.Glue.{Reached, reach-next, reach-end, reach-closed, payloads-state}
 use borrow.Author.Needs.{needs}
 use Rattle.cutsheet.proofs.session.Session.cut_block.Statement.{statement}
 use Rattle.cutsheet.proofs.session.Session.cut_block.Tie as tie
@@ -63,20 +64,20 @@ loop-again c =
 returns : tie.Need-returns Inv-loop μ-loop
 returns c =
     let l = c .before .before in
-    let start = l .before .before in (
-      search needs,
-      reach-closed (start .args .self) (l .loop .session) (was start) (now-at l) (start .args .block .now) (l .loop .at) (l .loop .inv .1 .1)
-          (c .if1 .left),
-    )
+    let start = l .before .before in
+    let cut =
+    reach-closed (start .args .self) (l .loop .session) (was start) (now-at l) (start .args .block .now) (l .loop .at) (l .loop .inv .1 .1)
+    (c .if1 .left) in
+    (search needs, (cut, payloads-state cut (payloads-small (start .args .block .now))))
 
 returns-2 : tie.Need-returns-2 Inv-loop μ-loop
 returns-2 c =
     let l = c .before in
-    let start = l .before .before in (
-      search needs,
-      reach-end (start .args .self) (l .loop .session) (was start) (now-at l) (start .args .block .now) (l .loop .at) (l .loop .inv .1 .1)
-          (c .loop-test .left),
-    )
+    let start = l .before .before in
+    let cut =
+    reach-end (start .args .self) (l .loop .session) (was start) (now-at l) (start .args .block .now) (l .loop .at) (l .loop .inv .1 .1)
+    (c .loop-test .left) in
+    (search needs, (cut, payloads-state cut (payloads-small (start .args .block .now))))
 
 pub cut-block-spec : {M : Type 1} → statement M
 cut-block-spec =

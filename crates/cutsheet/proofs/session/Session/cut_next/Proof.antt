@@ -51,7 +51,7 @@ returns c =
             (λ (n : ℕ).
             PayloadsCut (args .self) (lent (args .pending .now) (args .out .now) (args .rows .now) (args .text .now))
             (payloadsOf (take n (read .last .0))) (cut .result) (lent (last .0) (last .1 .0) (last .1 .1 .0) (last .1 .1 .1 .0)))
-            e (cut .ensures .1);
+            e (cut .ensures .1 .0);
         read = c .after-read .ensures;
       },
     )

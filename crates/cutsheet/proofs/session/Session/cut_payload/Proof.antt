@@ -3,6 +3,7 @@ use mathlib.Core.Path.{ap}
 use Prim.Native.Nat.{_-_, _≤_}
 use native.Mathlib.Omega.{arith}
 use Rattle.sheet.specs.Step.{Lent, lent}
+use Rattle.cutsheet.specs.Glue.{Sized}
 use Rattle.cutsheet.specs.declared.session.Session.{Session}
 use Rattle.cutsheet.proofs.Room.{count-room}
 use Rattle.cutsheet.proofs.Glue.{payload-written, payload-refused}
@@ -23,6 +24,9 @@ was k = lent (begin k .args .pending .now) (begin k .args .out .now) (begin k .a
 abbrev is : tie.After-cut-from → Lent
 is k =
     lent (k .cut-from .last .1 .1 .0) (k .cut-from .last .1 .1 .1 .0) (k .cut-from .last .1 .1 .1 .1 .0) (k .cut-from .last .1 .1 .1 .1 .1 .0)
+
+sized : (k : tie.After-cut-from) → Sized (was k)
+sized k = record { out = search needs; rows = search needs; text = search needs }
 
 -- the lines end within the text
 fits : (c : tie.After-answer)
@@ -49,7 +53,7 @@ returns c =
     let k = c .before .before .before .before in (
       omega (arith, ap (λ (s : Session). s .output .len) (c .closed .ensures), room k .with-room .ensures .0),
       payload-refused (begin k .args .self) (begin k .args .payload .now) (was k) (is k) (room k .with-room .result) (k .cut-from .result)
-          (room k .with-room .ensures .1) (k .cut-from .ensures .1) (c .before .enum-told .given .0 .0) (c .before .enum-told .given .1)
+          (room k .with-room .ensures .1) (k .cut-from .ensures .1) (sized k) (c .before .enum-told .given .0 .0) (c .before .enum-told .given .1)
           (c .closed .result) (c .closed .ensures),
     )
 
@@ -62,7 +66,7 @@ returns-2 c =
     let answer = c .before .before .answer .given in (
       omega (arith, fits (c .before .before)),
       payload-written (begin k .args .self) (begin k .args .payload .now) (was k) (is k) (room k .with-room .result) (k .cut-from .result)
-          (room k .with-room .ensures .1) (k .cut-from .ensures .1) (answer .0 .0) (answer .1),
+          (room k .with-room .ensures .1) (k .cut-from .ensures .1) (sized k) (answer .0 .0) (answer .1),
     )
 
 pub cut-payload-spec : {M : Type 1} → statement M
