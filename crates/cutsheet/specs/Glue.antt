@@ -7,8 +7,8 @@ use Prim.Native.Nat.{ℕ, _+_, _-_, _%_, _≤_, _<_}
 use lib.Dec.{ltb}
 use lib.IntN.{pos}
 use lib.ListN.{length, take, drop, replicate}
-use Rattle.sheet.specs.Sheet.{payloadSize, outSize, rowsSize, payloadsOf}
-use Rattle.sheet.specs.Step.{Wrote, refused, written, sheetAnswer, Lent, lent, Step, step}
+use Rattle.sheet.specs.Sheet.{payloadSize, outSize, rowsSize, payloadsOf, endOf}
+use Rattle.sheet.specs.Step.{Wrote, refused, written, put, sheetAnswer, Lent, lent, Step, step}
 use Rattle.sheet.specs.declared.sheet.CutLines.{CutLines}
 use Rattle.sheet.specs.declared.sheet.CutSheet.{CutSheet}
 use Rattle.cutsheet.specs.declared.input.Filled.{Filled}
@@ -64,7 +64,8 @@ newSession c = record { sheet = c; output = noOutput; «open» = true; «read_fa
 abbrev pub closedAt : CutSheet → Output → Session
 closedAt c o = record { sheet = c; output = o; «open» = false; «read_failed» = false }
 
--- after a step whose lines went behind that output: they are to be written too. After a write that failed there is no use in going on.
+-- after a step whose lines went behind that output: they are to be written too, and the session goes on unless a write failed. A refused step
+-- leaves the sheet's state as it was.
 abbrev pub sessionBy : Wrote → CutSheet → Output → Session
 sessionBy (refused k) c o = closedAt c o
 sessionBy (written n) c o =
@@ -130,3 +131,16 @@ pub record NextCut (s : Session) (block : List ℕ) (was : Lent) (r : Session) (
   pub session : Session
   pub payloads : PayloadsCut s was (payloadsOf (take (usableOf filled) block)) session is
   pub read : r ≡ afterRead session filled
+
+-- ---- the end
+
+-- the last line goes behind the output for which there is room
+pub record LastPut (s : Session) (was is : List ℕ) : Type 0 where
+  pub output : Output
+  pub room : Roomed (s .output) output
+  pub text : is ≡ put (output .len) (endOf (s .sheet .splitter)) was
+
+-- where a read failed there is none
+abbrev pub EndPut : Bool → Session → List ℕ → List ℕ → Type 0
+EndPut true s was is = is ≡ was
+EndPut false s was is = LastPut s was is

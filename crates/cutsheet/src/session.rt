@@ -18,7 +18,7 @@ ghost use lib.ListN.{length};
 ghost use Rattle.sheet.specs.Sheet.{payloadSize, payloadsOf, endOf};
 ghost use Rattle.sheet.specs.Step.{put, lent, endMost};
 ghost use Rattle.cutsheet.specs.Bounds.{Bounded, Payload, Roomy, Within};
-ghost use Rattle.cutsheet.specs.Glue.{CutFrom, PayloadCut, PayloadsCut, StateCut, NextCut, newSession, closedAt, usableOf, afterRead};
+ghost use Rattle.cutsheet.specs.Glue.{CutFrom, PayloadCut, PayloadsCut, StateCut, NextCut, EndPut, newSession, closedAt, usableOf, afterRead};
 
 const FIRST_LINE_LEN: usize = 2;
 
@@ -198,6 +198,7 @@ impl Session {
     // Writes the last line, unless a read failed: a sheet without it is seen not to be whole.
     fn end(self, text: &mut [u8; TEXT_LEN])
         requires { ⌜ Bounded (self .output) ⌝ }
+        ensures { λ _. ⌜ EndPut (self .«read_failed») self (now (text .entry)) (now (text .exit)) ⌝ }
     {
         let output = self.output;
         if self.read_failed {
