@@ -16,8 +16,8 @@ use Rattle.heads.specs.declared.syntax.CodedSyntax.{CodedSyntax}
 use Rattle.heads.specs.declared.syntax.CodedSyntax.the-variants.{Known, Refused as NoSyntax}
 use Rattle.splitter.specs.Cut.{unread}
 use Rattle.splitter.specs.Answer.{refused, refusalNumber, pushAnswer}
-use Rattle.splitter.specs.Push.{Event, refusalOf, refusal, stay, admits, pushTaken, pushBy, pushIn, push}
-use Rattle.splitter.specs.Steps.{admission, numberBy, Shown, Entered}
+use Rattle.splitter.specs.Push.{Event, refusalOf, refusal, numberBy, pushNumber, stay, admits, pushTaken, pushBy, pushIn, push}
+use Rattle.splitter.specs.Steps.{admission, Shown, Entered}
 use Rattle.splitter.specs.declared.answer.PushAnswer.{PushAnswer}
 use Rattle.splitter.specs.declared.answer.PushAnswer.the-variants.{Refused, NotTaken, Taken}
 use Rattle.splitter.specs.declared.answer.SplitterRefusal.{SplitterRefusal}
@@ -26,6 +26,7 @@ use Rattle.splitter.specs.declared.push.Entry.{Entry}
 use Rattle.splitter.specs.declared.push.Entry.the-variants.{Open, Closed}
 use Rattle.splitter.specs.declared.state.AudioFrameSplitter.{AudioFrameSplitter}
 use Rattle.splitter.specs.declared.timing.Pts.{Pts}
+use Rattle.splitter.proofs.Answers.{clash}
 use Rattle.splitter.proofs.Calls.{admits-head}
 
 -- ---- whether the payload is taken
@@ -114,3 +115,36 @@ module _ (s : AudioFrameSplitter) (e : Event) where
     pub push-open : (x : AudioSyntax) → r ≡ Open x → push s e ≡ pushTaken true x s e
     unfolding push
     push-open x q = let v : Shown s (e .payload) (refusal s e) (Open x) = subst (Shown s (e .payload) (refusal s e)) q shown in rw (v .0, v .1, v .2)
+
+-- ---- the number that turns a push down, from lengths and numbers alone
+
+-- if there is none, it is not the code's and not one of the others
+number-none : (k : CodedSyntax) (n : ℕ) → numberBy k n ≡ 0 → n ≡ 0
+number-none (NoSyntax g) n q = absurd (let no : ⊥ = omega arith in no)
+number-none (Known x) n q = q
+
+pub none-fine : (s : AudioFrameSplitter) (p : ℕ) (t : Pts) (b o r : ℕ) → pushNumber s p t b o r ≡ 0 → refusalOf s p t b o r ≡ 0
+unfolding pushNumber
+none-fine s p t b o r q = number-none (syntaxOf (s .syntax)) (refusalOf s p t b o r) q
+
+module _ (s : AudioFrameSplitter) (e : Event) where
+  abbrev numberOf : ℕ
+  numberOf = pushNumber s (length (e .payload)) (e .time) (length (e .pend)) (length (e .out)) (length (e .rows))
+
+  -- the push is refused by it
+  pub push-numbered : (g : SplitterRefusal) → numberOf ≡ refusalNumber g → push s e ≡ stay (refused (refusalNumber g)) s e
+  unfolding push pushNumber
+  push-numbered g q = refused-by s e (syntaxOf (s .syntax)) g q
+
+  -- if there is none, the push is not refused
+  pub push-unrefused : numberOf ≡ 0 → (m : ℕ) → (push s e) .answer ≡ refused m → ⊥
+  unfolding push pushNumber
+  push-unrefused q m = go (syntaxOf (s .syntax)) q
+    where
+      by : (x : AudioSyntax) (t : Bool) → (pushTaken t x s e) .answer ≡ refused m → ⊥
+      by x true a = clash m true _ _ (sym a)
+      by x false a = clash m false 0 0 (sym a)
+
+      go : (k : CodedSyntax) → numberBy k (refusal s e) ≡ 0 → (pushIn k s e) .answer ≡ refused m → ⊥
+      go (NoSyntax g) z a = omega arith
+      go (Known x) z a = by x (admits x s (e .payload)) (subst (λ (n : ℕ). (pushBy n x s e) .answer ≡ refused m) z a)

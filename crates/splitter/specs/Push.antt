@@ -74,6 +74,15 @@ refusalOf s p t b o r =
 abbrev pub refusal : AudioFrameSplitter → Event → ℕ
 refusal s e = refusalOf s (length (e .payload)) (e .time) (length (e .pend)) (length (e .out)) (length (e .rows))
 
+-- 7 comes before them
+abbrev pub numberBy : CodedSyntax → ℕ → ℕ
+numberBy (Refused g) n = 7
+numberBy (Known x) n = n
+
+-- 0, or the number that turns the push down
+unfoldable pub pushNumber : AudioFrameSplitter → ℕ → Pts → ℕ → ℕ → ℕ → ℕ
+pushNumber s p t b o r = numberBy (syntaxOf (s .syntax)) (refusalOf s p t b o r)
+
 -- ---- what goes into the lent buffers
 
 abbrev pub bytesOf : List Frame → List ℕ

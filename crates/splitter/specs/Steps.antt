@@ -11,11 +11,10 @@ use Rattle.heads.specs.Promise.{Unread}
 use Rattle.heads.specs.Syntax.{headOf, needOf, syntaxOf}
 use Rattle.heads.specs.declared.info.AudioFrameInfo.{AudioFrameInfo}
 use Rattle.heads.specs.declared.syntax.AudioSyntax.{AudioSyntax}
-use Rattle.heads.specs.declared.syntax.CodedSyntax.{CodedSyntax}
-use Rattle.heads.specs.declared.syntax.CodedSyntax.the-variants.{Known, Refused as NoSyntax}
+use Rattle.heads.specs.declared.syntax.CodedSyntax.the-variants.{Known}
 use Rattle.splitter.specs.Stamp.{stampOwn, anchorOwn, keep, keepTail, emptied}
 use Rattle.splitter.specs.Answer.{refusalNumber}
-use Rattle.splitter.specs.Push.{row, admits, refusalOf}
+use Rattle.splitter.specs.Push.{row, admits, refusalOf, numberBy}
 use Rattle.splitter.specs.declared.timing.Pts.{Pts}
 use Rattle.splitter.specs.declared.timing.Pts.the-variants.{At, Absent}
 use Rattle.splitter.specs.declared.timing.Anchor.{Anchor}
@@ -126,10 +125,6 @@ limitsNumber (Broken g) = refusalNumber g
 abbrev pub admission : Bool → AudioSyntax → Entry
 admission true x = Open x
 admission false x = Closed NotTaken
-
-abbrev pub numberBy : CodedSyntax → ℕ → ℕ
-numberBy (NoSyntax g) n = 7
-numberBy (Known x) n = n
 
 -- the payload is shut out
 pub record Shut (s : AudioFrameSplitter) (p : List ℕ) (n : ℕ) : Type 0 where

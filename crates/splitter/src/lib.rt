@@ -17,6 +17,7 @@ pub use answer::Pushed;
 pub use answer::SplitterRefusal;
 pub use answer::Written;
 pub use state::AudioFrameSplitter;
+pub use state::Limits;
 pub use timing::Anchor;
 pub use timing::Anchored;
 pub use timing::Pts;

@@ -1,12 +1,14 @@
-// The splitter's state, and what the numbers 8 to 12 ask of it. It goes into each call by value and is handed back by it.
+// The splitter's state, and what the numbers 7 to 12 ask of it. It goes into each call by value and is handed back by it.
 use crate::answer::SplitterRefusal;
 use crate::timing::Anchored;
 use crate::timing::Pts;
 use crate::timing::Timing;
+use heads::AudioSyntax;
+use heads::CodedSyntax;
 ghost use mathlib.Core.Path.{_≡_};
 ghost use Prim.Native.Nat.{_≤_};
 ghost use Rattle.splitter.specs.Stamp.{far, farPts, badAnchor, manySince};
-ghost use Rattle.splitter.specs.Push.{badState, badCount, tightOf, refusalOf};
+ghost use Rattle.splitter.specs.Push.{badState, badCount, tightOf, refusalOf, pushNumber};
 ghost use Rattle.splitter.specs.Steps.{limitsNumber};
 
 pub struct AudioFrameSplitter {
@@ -21,6 +23,7 @@ pub struct AudioFrameSplitter {
     pub locked: bool,
 }
 
+// Whether a call may go on, or the number that turns it down.
 pub enum Limits {
     Kept,
     Broken(SplitterRefusal),
@@ -127,5 +130,15 @@ impl AudioFrameSplitter {
             return Limits::Broken(SplitterRefusal::Buffer);
         }
         Limits::Kept
+    }
+
+    // The number that would turn such a push down: for a caller who has to know before the buffers are written.
+    pub fn refusal(self, payload: usize, pts: Pts, pending: usize, out: usize, rows: usize) -> Limits
+        ensures { λ r. ⌜ limitsNumber r ≡ pushNumber self payload pts pending out rows ⌝ }
+    {
+        let CodedSyntax::Known(_) = AudioSyntax::from_code(self.syntax) else {
+            return Limits::Broken(SplitterRefusal::SyntaxCode);
+        };
+        self.limits(payload, pts, pending, out, rows)
     }
 }
