@@ -3,7 +3,7 @@
 use mathlib.Core.Path.{_≡_, refl, subst, sym, ap, _∙_}
 use mathlib.Core.Bool.{Bool, true, false}
 use mathlib.Core.List.{List}
-use Prim.Native.Nat.{ℕ, _-_, _≤_}
+use Prim.Native.Nat.{ℕ, _+_, _-_, _≤_}
 use native.Mathlib.Omega.{arith}
 use borrow.Author.Tests.{le-ltb}
 use lib.Dec.{ltb}
@@ -11,7 +11,7 @@ use lib.ListN.{length, take, drop, length-append, length-take, length-drop}
 use Rattle.splitter.specs.Answer.{Answer, done}
 use Rattle.splitter.specs.Push.{Outcome, over}
 use Rattle.sheet.specs.Sheet.{linesOf, endOf}
-use Rattle.sheet.specs.Step.{Wrote, refused, written, sheetAnswer, Lent, stepBy, stepIf, pushOf, tightText, step, endIf, endMost, finish}
+use Rattle.sheet.specs.Step.{Wrote, refused, written, sheetAnswer, Lent, stepBy, pushOf, tightText, step, endIf, endMost, finish}
 use Rattle.sheet.specs.declared.sheet.CutSheet.{CutSheet}
 use Rattle.sheet.specs.declared.sheet.SheetAnswer.{SheetAnswer}
 use Rattle.sheet.specs.declared.sheet.SheetAnswer.the-variants.{Written, Refused}
@@ -30,17 +30,12 @@ within most (Refused refusal) h = tt
 front : (new old : List ℕ) → length (over new old) ≡ length old → length new ≤ length old
 front new old e = omega (arith, simp (length-append, length-drop) at e)
 
-by-answer : (a : Answer) (c : CutSheet) (b : Lent) (o : Outcome)
-    → length (stepBy a c b o .text) ≡ length (b .text)
-    → Room (length (b .text)) (stepBy a c b o .answer)
-by-answer (Answer.refused k) c b o e = tt
-by-answer (done t r n) c b o e = front (linesOf (c .number) r (o .rows)) (b .text) e
-
-by-test : (tight : Bool) (c : CutSheet) (b : Lent) (o : Outcome)
-    → length (stepIf tight c b o .text) ≡ length (b .text)
-    → Room (length (b .text)) (stepIf tight c b o .answer)
-by-test true c b o e = tt
-by-test false c b o e = by-answer (o .answer) c b o e
+by-answer : (a : Answer) (tight : Bool) (c : CutSheet) (b : Lent) (o : Outcome)
+    → length (stepBy a tight c b o .text) ≡ length (b .text)
+    → Room (length (b .text)) (stepBy a tight c b o .answer)
+by-answer (Answer.refused k) tight c b o e = tt
+by-answer (done t r n) true c b o e = tt
+by-answer (done t r n) false c b o e = front (linesOf (c .number) r (o .rows)) (b .text) e
 
 -- of a step, after which the text holds last
 pub step-room : (answer : SheetAnswer) (c : CutSheet) (p : List ℕ) (b : Lent) {last : List ℕ}
@@ -52,7 +47,7 @@ unfolding step
 step-room answer c p b a t e =
     within _ answer
     (subst (Room (length (b .text))) (sym a)
-    (by-test (tightText (length (b .text)) (length (b .rows))) c b (pushOf c p b) (sym (ap length t) ∙ e)))
+    (by-answer (pushOf c p b .answer) (tightText (length (b .text)) (c .splitter .pending + length p)) c b (pushOf c p b) (sym (ap length t) ∙ e)))
 
 by-length : (short : Bool) (c : CutSheet) (text : List ℕ)
     → length (endIf short c text .text) ≡ length text

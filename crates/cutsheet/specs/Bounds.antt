@@ -1,8 +1,7 @@
 -- What the output, the buffers and an answer keep: no index leaves the text, and no payload is refused for want of room.
-use Prim.Native.Nat.{ℕ, _/_, _≤_, _<_}
-use Rattle.splitter.specs.Push.{rowWidth}
-use Rattle.sheet.specs.Sheet.{payloadSize, pendSize, outSize, rowsSize}
-use Rattle.sheet.specs.Step.{lineLength}
+use Prim.Native.Nat.{ℕ, _≤_, _<_}
+use Rattle.sheet.specs.Run.{Roomy as LongEnough}
+use Rattle.sheet.specs.Sheet.{payloadSize, pendSize}
 use Rattle.sheet.specs.declared.sheet.SheetAnswer.{SheetAnswer}
 use Rattle.sheet.specs.declared.sheet.SheetAnswer.the-variants.{Written, Refused}
 use Rattle.cutsheet.specs.declared.output.Output.{Output}
@@ -19,9 +18,7 @@ pub record Payload (payload : ℕ) : Type 0 where
 -- buffers of these lengths are not refused by 12, whatever is pending
 pub record Roomy (pending out rows text : ℕ) : Type 0 where
   pub pending-room : pendSize ≤ pending
-  pub out-room : outSize ≤ out
-  pub rows-room : rowsSize ≤ rows
-  pub text-room : rows / rowWidth ≤ text / lineLength
+  pub rest-room : LongEnough out rows text
 
 -- no more is written than the text has room for
 abbrev pub Within : ℕ → SheetAnswer → Type 0

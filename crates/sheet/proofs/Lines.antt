@@ -11,7 +11,7 @@ use lib.IntN.{ℤ, pos}
 use lib.ListN.{length, getD, take, drop, length-append}
 use lib.Seq.{drop-drop, take-take, getD-drop, take-nil}
 use lib.Signed.{mag}
-use borrow.Author.Tests.{ltb-false}
+use borrow.Author.Tests.{ltb-false, le-ltb}
 use Rattle.heads.specs.Numbers.{kindNumber, bitRateNumber}
 use Rattle.heads.specs.Promise.{boundsOf}
 use Rattle.heads.specs.Syntax.{headOf, needOf}
@@ -31,10 +31,10 @@ use Rattle.splitter.specs.declared.state.AudioFrameSplitter.{AudioFrameSplitter
 use Rattle.splitter.specs.declared.timing.Clock.{Clock}
 use Rattle.splitter.proofs.Account.{stamp-count}
 use Rattle.splitter.proofs.Answers.{clash, rows-said}
-use Rattle.splitter.proofs.Laws.{room, push-cases, brought, many-in, rows-fit}
+use Rattle.splitter.proofs.Laws.{room, push-cases, brought, many-in}
 use Rattle.sheet.specs.Layout.{line, lowDigits}
-use Rattle.sheet.specs.Sheet.{linesOf, payloadSize}
-use Rattle.sheet.specs.Step.{lineLength, tightText}
+use Rattle.sheet.specs.Sheet.{linesOf, payloadSize, pendSize}
+use Rattle.sheet.specs.Step.{lineLength, tightText, textSize}
 use Rattle.sheet.proofs.Columns.{line-length, line-take, line-low}
 use Rattle.sheet.specs.Parts.{RowsFit}
 
@@ -235,21 +235,28 @@ module _ (s : AudioFrameSplitter) (e : Event) (t : Bool) (r b : ℕ) (answered :
       j (omega (arith, rows-said true t _ _ r b a)))
       answered
 
-  -- of a payload's rows there are at most 1755
-  pub payload-rows : length (e .payload) ≤ payloadSize → r ≤ 1755
-  payload-rows h =
-      push-cases s e (λ o. o .answer ≡ done t r b → r ≤ 1755)
+  -- not refused, it found at most 8190 bytes pending, and has seven bytes at least to a row
+  push-found : (s .pending ≤ pendSize) × (r * 7 ≤ s .pending + length (e .payload))
+  push-found =
+      push-cases s e (λ o. o .answer ≡ done t r b → (s .pending ≤ pendSize) × (r * 7 ≤ s .pending + length (e .payload)))
       (λ k a. absurd (clash (suc k) t r b a))
-      (λ x known q u a. omega (arith, rows-said false t 0 0 r b a))
+      (λ x known q u a. ((room s e q) .pending-in, omega (arith, rows-said false t 0 0 r b a)))
       (λ x known q u a.
       let w = room s e q in
-      omega (arith, rows-said true t _ _ r b a, frames-most x s e, brought x s e (omega (arith, w .pending-in, w .pend-room)), w .pending-in))
+      (w .pending-in, omega (arith, rows-said true t _ _ r b a, frames-most x s e, brought x s e (omega (arith, w .pending-in, w .pend-room)))))
       answered
 
-  -- a text that has room for a line of each row that the rows have room for, has room for a line of each row written
-  pub push-lines-room : (text : ℕ) → tightText text (length (e .rows)) ≡ false → r * lineLength ≤ text
-  push-lines-room text q =
-      omega (arith, rows-fit s e t r b answered, ltb-false (text / lineLength) (length (e .rows) / rowWidth) q)
+  -- of a payload's rows there are at most 1755
+  pub payload-rows : length (e .payload) ≤ payloadSize → r ≤ 1755
+  payload-rows h = omega (arith, push-found)
+
+  -- a text that is not tight has room for a line of each row
+  pub push-lines-room : (text : ℕ) → tightText text (s .pending + length (e .payload)) ≡ false → r * lineLength ≤ text
+  push-lines-room text q = omega (arith, push-found .1, ltb-false text (lineLength * ((s .pending + length (e .payload)) / 7)) q)
+
+  -- the shortest text of a program is not tight
+  pub payload-loose : length (e .payload) ≤ payloadSize → (text : ℕ) → textSize ≤ text → tightText text (s .pending + length (e .payload)) ≡ false
+  payload-loose h text l = le-ltb text (lineLength * ((s .pending + length (e .payload)) / 7)) (omega (arith, push-found .0))
 
   module _ (h : Signed64 ((push s e) .rows)) (n : ℕ) where
     -- how long their lines are

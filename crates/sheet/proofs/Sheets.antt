@@ -29,9 +29,9 @@ use Rattle.splitter.proofs.Laws.{push-cases, push-pend-length}
 use Rattle.sheet.specs.Layout.{lowDigits}
 use Rattle.sheet.specs.Run.{Call, Roomy, AllRoomy, stepOf, runOn, runSteps}
 use Rattle.sheet.specs.Sheet.{Standing, payloadSize, payloadsBy, payloadsOf, timeOf, linesOf, pendSize, outSize, rowsSize, pushed, endOf, goOn, sheetFrom, sheetOf}
-use Rattle.sheet.specs.Step.{Wrote, written, Step, Lent, lent, newSheet, sheetAfter, stepBy, stepIf, pushOf, tightText, step}
+use Rattle.sheet.specs.Step.{Wrote, written, Step, Lent, lent, newSheet, sheetAfter, stepBy, pushOf, tightText, textSize, step}
 use Rattle.sheet.specs.declared.sheet.CutSheet.{CutSheet}
-use Rattle.sheet.proofs.Lines.{lines-front, lines-low}
+use Rattle.sheet.proofs.Lines.{lines-front, lines-low, payload-loose}
 
 -- ---- a push with room
 
@@ -295,15 +295,22 @@ sheet-level (p ∷ ps) small s b b′ n n′ g front l l′ low =
 abbrev pub restOf : CutSheet → List ℕ → List (List ℕ) → List ℕ
 restOf c b ps = sheetFrom (record { splitter = c .splitter; pend = b; lines = c .number; begun = c .begun }) ps
 
--- of a text with room
-step-open : (c : CutSheet) (p : List ℕ) (b : Lent) → tightText (length (b .text)) (length (b .rows)) ≡ false
-    → step c p b ≡ stepBy ((pushOf c p b) .answer) c b (pushOf c p b)
+-- of a text with room, the push alone decides
+pub step-open : (c : CutSheet) (p : List ℕ) (b : Lent) → length p ≤ payloadSize → textSize ≤ length (b .text)
+    → step c p b ≡ stepBy ((pushOf c p b) .answer) false c b (pushOf c p b)
 unfolding step
-step-open c p b e = ap (λ (t : Bool). stepIf t c b (pushOf c p b)) e
+step-open c p b small long = go ((pushOf c p b) .answer) refl
+  where
+    go : (a : Answer) → (pushOf c p b) .answer ≡ a
+        → stepBy a (tightText (length (b .text)) (c .splitter .pending + length p)) c b (pushOf c p b) ≡ stepBy a false c b (pushOf c p b)
+    go (refused k) e = refl
+    go (done t r n) e =
+        ap (λ (x : Bool). stepBy (done t r n) x c b (pushOf c p b))
+        (payload-loose (c .splitter) (event p (timeOf (c .begun)) (b .pend) (b .out) (b .rows)) t r n e small (length (b .text)) long)
 
 on-same : (c : CutSheet) (b : Lent) (ps : List (List ℕ)) → AllPayloads ps → (o o′ : Outcome) → Same o o′ → pendSize ≤ length (o .pend) → (a : Answer)
     → o .answer ≡ a
-    → runOn ((stepBy a c b o) .answer) (stepBy a c b o) (λ d z. restOf d z ps)
+    → runOn ((stepBy a false c b o) .answer) (stepBy a false c b o) (λ d z. restOf d z ps)
     ≡ goOn a (standing (c .splitter) (b .pend) (c .number) (c .begun)) o′ (λ e. sheetFrom e ps)
 on-same c b ps small o o′ same long (refused k) e = refl
 on-same c b ps small o o′ same long (done t r x) e =
@@ -317,22 +324,19 @@ on-same c b ps small o o′ same long (done t r x) e =
 -- no step changes the length of the pending buffer
 pub step-pend-length : (c : CutSheet) (p : List ℕ) (b : Lent) → length ((step c p b) .pend) ≡ length (b .pend)
 unfolding step
-step-pend-length c p b = by (tightText (length (b .text)) (length (b .rows)))
+step-pend-length c p b = go ((pushOf c p b) .answer) (tightText (length (b .text)) (c .splitter .pending + length p))
   where
-    taken : (a : Answer) → length ((stepBy a c b (pushOf c p b)) .pend) ≡ length (b .pend)
-    taken (refused k) = refl
-    taken (done t r n) = push-pend-length (c .splitter) (event p (timeOf (c .begun)) (b .pend) (b .out) (b .rows))
+    go : (a : Answer) (tight : Bool) → length ((stepBy a tight c b (pushOf c p b)) .pend) ≡ length (b .pend)
+    go (refused k) tight = refl
+    go (done t r n) true = refl
+    go (done t r n) false = push-pend-length (c .splitter) (event p (timeOf (c .begun)) (b .pend) (b .out) (b .rows))
 
-    by : (t : Bool) → length ((stepIf t c b (pushOf c p b)) .pend) ≡ length (b .pend)
-    by true = refl
-    by false = taken ((pushOf c p b) .answer)
-
-module _ (c : CutSheet) (b : List ℕ) (k : Call) (ps : List (List ℕ)) (room : Roomy k) (small : AllPayloads (k .payload ∷ ps))
-    (long : pendSize ≤ length b) where
+module _ (c : CutSheet) (b : List ℕ) (k : Call) (ps : List (List ℕ)) (room : Roomy (length (k .out)) (length (k .rows)) (length (k .text)))
+    (small : AllPayloads (k .payload ∷ ps)) (long : pendSize ≤ length b) where
   -- a step gives the next lines of the sheet, or its last
   pub step-gives : runOn ((stepOf c b k) .answer) (stepOf c b k) (λ d z. restOf d z ps) ≡ restOf c b (k .payload ∷ ps)
   step-gives =
-      ap (λ (a : Step). runOn (a .answer) a (λ d z. restOf d z ps)) (step-open c (k .payload) given (room .text-room))
+      ap (λ (a : Step). runOn (a .answer) a (λ d z. restOf d z ps)) (step-open c (k .payload) given (small .0 .1) (room .text-room))
       ∙ on-same c given ps (small .1) (pushOf c (k .payload) given) whole same
       (pend-room (c .splitter) _ long) ((pushOf c (k .payload) given) .answer) refl
       ∙ ap (λ (a : Answer). goOn a (standing (c .splitter) b (c .number) (c .begun)) whole (λ e. sheetFrom e ps)) (same .answer)
@@ -382,3 +386,25 @@ steps-give-sheet code stream calls e room pend long =
     ∙ ap (restOf (newSheet code) pend) e
     ∙ sheet-level (payloadsOf stream) (payloads-small stream) (new code) pend (replicate pendSize 0) 0 0 false refl long
     (full {A = ℕ} pendSize 0) refl
+
+-- ---- the shortest buffers
+
+-- a call with the shortest buffers of a program
+abbrev pub shortest : List ℕ → Call
+shortest p = record { payload = p; out = replicate outSize 0; rows = replicate rowsSize (pos 0); text = replicate 110565 0 }
+
+-- they are long enough for any payload
+pub roomy-instance : (ps : List (List ℕ)) → AllRoomy (map shortest ps)
+roomy-instance [] = tt
+roomy-instance (p ∷ ps) =
+    (record { out-room = full {A = ℕ} outSize 0; rows-room = full rowsSize (pos 0); text-room = full {A = ℕ} 110565 0 }, roomy-instance ps)
+
+shortest-payloads : (ps : List (List ℕ)) → map (λ (k : Call). k .payload) (map shortest ps) ≡ ps
+shortest-payloads [] = refl
+shortest-payloads (p ∷ ps) = ap (λ (l : List (List ℕ)). p ∷ l) (shortest-payloads ps)
+
+-- so a run with them gives the sheet of every stream
+pub shortest-give-sheet : (code : ℕ) (stream : List ℕ) → runSteps (newSheet code) (replicate pendSize 0) (map shortest (payloadsOf stream)) ≡ sheetOf code stream
+shortest-give-sheet code stream =
+    steps-give-sheet code stream (map shortest (payloadsOf stream)) (shortest-payloads (payloadsOf stream)) (roomy-instance (payloadsOf stream))
+    (replicate pendSize 0) (full {A = ℕ} pendSize 0)

@@ -1,13 +1,12 @@
 -- A RUN: a step for each payload, one after the other, and all that they write; and the last line. The splitter's output, the rows and the
 -- text may be others for each step; the pending buffer goes from step to step.
 use mathlib.Core.Path.{_≡_}
-use mathlib.Core.Bool.{false}
 use mathlib.Core.List.{List, [], _∷_, _++_}
 use Prim.Native.Nat.{ℕ, _≤_}
 use lib.IntN.{ℤ}
 use lib.ListN.{length, take}
 use Rattle.sheet.specs.Sheet.{endOf, outSize, rowsSize}
-use Rattle.sheet.specs.Step.{Wrote, refused, written, Step, lent, step, tightText}
+use Rattle.sheet.specs.Step.{Wrote, refused, written, Step, lent, step, textSize}
 use Rattle.sheet.specs.declared.sheet.CutSheet.{CutSheet}
 
 -- what one step is handed besides the state and the pending buffer
@@ -17,15 +16,15 @@ pub record Call : Type 0 where
   pub rows : List ℤ
   pub text : List ℕ
 
--- the buffers are long enough for any payload
-pub record Roomy (k : Call) : Type 0 where
-  pub out-room : outSize ≤ length (k .out)
-  pub rows-room : rowsSize ≤ length (k .rows)
-  pub text-room : tightText (length (k .text)) (length (k .rows)) ≡ false
+-- buffers of these lengths are long enough for any payload, whatever is pending
+pub record Roomy (out rows text : ℕ) : Type 0 where
+  pub out-room : outSize ≤ out
+  pub rows-room : rowsSize ≤ rows
+  pub text-room : textSize ≤ text
 
 abbrev pub AllRoomy : List Call → Type 0
 AllRoomy [] = Unit {0}
-AllRoomy (k ∷ ks) = Roomy k × AllRoomy ks
+AllRoomy (k ∷ ks) = Roomy (length (k .out)) (length (k .rows)) (length (k .text)) × AllRoomy ks
 
 abbrev pub stepOf : CutSheet → List ℕ → Call → Step
 stepOf c pend k = step c (k .payload) (lent pend (k .out) (k .rows) (k .text))

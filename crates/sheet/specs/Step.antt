@@ -1,7 +1,7 @@
 -- THE STEPS by which a program makes a sheet: one payload's lines, and the last line. Each writes to the front of a lent text.
 use mathlib.Core.Bool.{Bool, true, false}
 use mathlib.Core.List.{List, _++_}
-use Prim.Native.Nat.{ℕ, _+_, _/_, _≤_}
+use Prim.Native.Nat.{ℕ, _+_, _*_, _/_, _≤_}
 use lib.Dec.{ltb}
 use lib.IntN.{ℤ}
 use lib.ListN.{length, take, drop}
@@ -9,11 +9,11 @@ use Rattle.heads.specs.Syntax.{syntaxOf}
 use Rattle.heads.specs.declared.syntax.CodedSyntax.{CodedSyntax}
 use Rattle.heads.specs.declared.syntax.CodedSyntax.the-variants.{Known, Refused as NoSyntax}
 use Rattle.splitter.specs.Answer.{Answer, done, refusalNumber}
-use Rattle.splitter.specs.Push.{Outcome, event, over, push, new, rowWidth}
+use Rattle.splitter.specs.Push.{Outcome, event, over, push, new}
 use Rattle.splitter.specs.declared.answer.SplitterRefusal.the-variants.{SyntaxCode}
 use Rattle.splitter.specs.declared.state.AudioFrameSplitter.{AudioFrameSplitter}
 use Rattle.sheet.specs.Layout.{lowDigits}
-use Rattle.sheet.specs.Sheet.{timeOf, linesOf, endOf}
+use Rattle.sheet.specs.Sheet.{timeOf, linesOf, outSize, endOf}
 use Rattle.sheet.specs.declared.sheet.CutSheet.{CutSheet}
 use Rattle.sheet.specs.declared.sheet.NewSheet.{NewSheet}
 use Rattle.sheet.specs.declared.sheet.SheetAnswer.{SheetAnswer}
@@ -84,9 +84,11 @@ stay k c b = record { answer = refused k; state = c; pend = b .pend; out = b .ou
 abbrev pub sheetAfter : CutSheet → AudioFrameSplitter → ℕ → CutSheet
 sheetAfter c s r = record { splitter = s; number = lowDigits (c .number + r); begun = true }
 
-abbrev pub stepBy : Answer → CutSheet → Lent → Outcome → Step
-stepBy (Answer.refused k) c b o = stay k c b
-stepBy (done t r n) c b o =
+-- push's own number comes first; then 12 for a tight text; then the lines are written
+abbrev pub stepBy : Answer → Bool → CutSheet → Lent → Outcome → Step
+stepBy (Answer.refused k) tight c b o = stay k c b
+stepBy (done t r n) true c b o = stay 12 c b
+stepBy (done t r n) false c b o =
     record {
       answer = written (length (linesOf (c .number) r (o .rows)));
       state = sheetAfter c (o .state) r;
@@ -99,16 +101,16 @@ stepBy (done t r n) c b o =
 abbrev pub pushOf : CutSheet → List ℕ → Lent → Outcome
 pushOf c p b = push (c .splitter) (event p (timeOf (c .begun)) (b .pend) (b .out) (b .rows))
 
--- 12 comes first here: the text has no room for a line of each row that the rows have room for
-abbrev pub stepIf : Bool → CutSheet → Lent → Outcome → Step
-stepIf true c b o = stay 12 c b
-stepIf false c b o = stepBy (o .answer) c b o
-
+-- a text is measured as the rows are: a line for each seven of the bytes pending and brought
 abbrev pub tightText : ℕ → ℕ → Bool
-tightText text rows = ltb (text / lineLength) (rows / rowWidth)
+tightText text bytes = ltb text (lineLength * (bytes / 7))
+
+-- the shortest text that is never tight, with up to 8190 bytes pending and a payload
+abbrev pub textSize : ℕ
+textSize = lineLength * (outSize / 7)
 
 unfoldable pub step : CutSheet → List ℕ → Lent → Step
-step c p b = stepIf (tightText (length (b .text)) (length (b .rows))) c b (pushOf c p b)
+step c p b = stepBy ((pushOf c p b) .answer) (tightText (length (b .text)) (c .splitter .pending + length p)) c b (pushOf c p b)
 
 -- ---- the last line
 

@@ -12,7 +12,7 @@ ghost use Rattle.sheet.specs.Step.{put, Room, lineLength};
 ghost use Rattle.sheet.specs.Parts.{frontOf, backOf, threeOf, stampSize, sizeOf, RowsFit};
 
 // How many numbers a row has.
-pub const ROW_LEN: usize = 8;
+const ROW_LEN: usize = 8;
 
 // A row has 0 for an absent bit rate.
 fn rate_cell(bit_rate: i64) -> Cell

@@ -1,9 +1,9 @@
 // A sheet under way: its state goes into each call by value and is handed back by it.
-use crate::line::ROW_LEN;
 use crate::line::number_after;
 use crate::line::put_end_line;
 use crate::line::put_lines;
 use splitter::AudioFrameSplitter;
+use splitter::Limits;
 use splitter::NewSplitter;
 use splitter::Pts;
 use splitter::PushAnswer;
@@ -11,10 +11,11 @@ use splitter::SplitterRefusal;
 ghost use mathlib.Core.Path.{_≡_};
 ghost use Prim.Native.Nat.{_*_, _≤_};
 ghost use lib.ListN.{length};
+ghost use Rattle.splitter.specs.Answer.{refusalNumber};
 ghost use Rattle.splitter.specs.Push.{over, rowWidth};
 ghost use Rattle.sheet.specs.Sheet.{timeOf, linesOf};
 ghost use Rattle.sheet.specs.Parts.{RowsFit};
-ghost use Rattle.sheet.specs.Step.{Room, lineLength, newSheetOf, sheetAnswer, written, sheetAfter, step, lent, finish};
+ghost use Rattle.sheet.specs.Step.{Room, lineLength, newSheetOf, sheetAnswer, refused, written, sheetAfter, step, lent, finish};
 
 // How many bytes the line of a frame has.
 const LINE_LEN: usize = 63;
@@ -72,7 +73,7 @@ impl CutSheet {
         Pts::At(0)
     }
 
-    // Pushes one payload, and writes a line for each frame that it completes.
+    // Pushes one payload, and writes a line for each frame that it completes. A push writes to its buffers, so all is measured before it.
     pub fn cut(
         self,
         payload: &[u8],
@@ -88,24 +89,34 @@ impl CutSheet {
         ensures { λ _. ⌜ now (rows .exit) ≡ step self (now (payload .entry)) (lent (now (pending .entry)) (now (out .entry)) (now (rows .entry)) (now (text .entry))) .rows ⌝ }
         ensures { λ _. ⌜ now (text .exit) ≡ step self (now (payload .entry)) (lent (now (pending .entry)) (now (out .entry)) (now (rows .entry)) (now (text .entry))) .text ⌝ }
     {
-        if text.len() / LINE_LEN < rows.len() / ROW_LEN {
-            let refusal = SplitterRefusal::Buffer;
-            return CutLines {
-                answer: SheetAnswer::Refused(refusal),
-                sheet: self,
-            };
-        }
         let splitter = self.splitter;
-        let pushed = splitter.push(payload, self.pts(), pending, out, rows);
+        let pts = self.pts();
+        let limits = splitter.refusal(payload.len(), pts, pending.len(), out.len(), rows.len());
+        if let Limits::Broken(refusal) = limits {
+            return self.refused(refusal);
+        }
+        let bytes = splitter.pending_bytes() + payload.len();
+        if text.len() < LINE_LEN * (bytes / 7) {
+            return self.refused(SplitterRefusal::Buffer);
+        }
+        let pushed = splitter.push(payload, pts, pending, out, rows);
         let answer = pushed.answer;
         let after = pushed.splitter;
         match answer {
-            PushAnswer::Refused(refusal) => CutLines {
-                answer: SheetAnswer::Refused(refusal),
-                sheet: self,
-            },
+            PushAnswer::Refused(refusal) => self.refused(refusal),
             PushAnswer::NotTaken => self.with_lines(after, rows, 0, text),
             PushAnswer::Taken(written) => self.with_lines(after, rows, written.rows, text),
+        }
+    }
+
+    // A step that is turned down leaves the sheet as it was.
+    fn refused(self, refusal: SplitterRefusal) -> CutLines
+        ensures { λ r. ⌜ sheetAnswer (r .answer) ≡ refused (refusalNumber refusal) ⌝ }
+        ensures { λ r. ⌜ r .sheet ≡ self ⌝ }
+    {
+        CutLines {
+            answer: SheetAnswer::Refused(refusal),
+            sheet: self,
         }
     }
 

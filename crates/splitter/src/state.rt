@@ -133,7 +133,14 @@ impl AudioFrameSplitter {
     }
 
     // The number that would turn such a push down: for a caller who has to know before the buffers are written.
-    pub fn refusal(self, payload: usize, pts: Pts, pending: usize, out: usize, rows: usize) -> Limits
+    pub fn refusal(
+        self,
+        payload: usize,
+        pts: Pts,
+        pending: usize,
+        out: usize,
+        rows: usize,
+    ) -> Limits
         ensures { λ r. ⌜ limitsNumber r ≡ pushNumber self payload pts pending out rows ⌝ }
     {
         let CodedSyntax::Known(_) = AudioSyntax::from_code(self.syntax) else {
