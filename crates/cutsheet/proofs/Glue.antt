@@ -2,7 +2,7 @@
 use mathlib.Core.Path.{_≡_, refl, subst, sym, ap, _∙_}
 use mathlib.Core.Bool.{Bool, true, false, cond, true≢false}
 use mathlib.Core.List.{List, [], _∷_, _++_}
-use Prim.Native.Nat.{ℕ, suc, _+_, _-_, _/_, _%_, _≤_, _<_, min}
+use Prim.Native.Nat.{ℕ, suc, _+_, _-_, _%_, _≤_, _<_, min}
 use native.Mathlib.Omega.{arith}
 use borrow.Author.Tests.{ltb-true, ltb-false, le-ltb}
 use borrow.Rule.Slice.PartMut.{putMid}
@@ -11,17 +11,17 @@ use lib.IntN.{ℤ, pos}
 use lib.ListN.{length, take, drop, replicate, length-drop, length-replicate, drop-of-length-le}
 use lib.Seq.{take-all, drop-drop}
 use Rattle.splitter.specs.Answer.{Answer, done, refusalNumber}
-use Rattle.splitter.specs.Push.{Outcome, over, rowWidth}
+use Rattle.splitter.specs.Push.{Outcome, over}
 use Rattle.splitter.specs.declared.answer.SplitterRefusal.{SplitterRefusal}
 use Rattle.splitter.proofs.Buffers.{put-tail, write-after}
 use Rattle.sheet.specs.Sheet.{payloadSize, outSize, rowsSize, timeOf, payloadsOf, endOf}
-use Rattle.sheet.specs.Step.{Wrote, refused, written, put, sheetAnswer, Lent, lent, Step, lineLength, stepBy, stepIf, pushOf, tightText, step, endMost, endIf, finish}
+use Rattle.sheet.specs.Step.{Wrote, refused, written, put, sheetAnswer, Lent, lent, Step, stepBy, pushOf, textSize, step, endMost, endIf, finish}
 use Rattle.sheet.specs.declared.sheet.CutLines.{CutLines}
 use Rattle.sheet.specs.declared.sheet.CutSheet.{CutSheet}
 use Rattle.sheet.specs.declared.sheet.SheetAnswer.the-variants.{Written, Refused}
-use Rattle.sheet.proofs.Sheets.{Same, push-same, AllPayloads, payloads-none, payloads-next}
+use Rattle.sheet.proofs.Sheets.{Same, push-same, AllPayloads, payloads-none, payloads-next, step-open}
 use Rattle.sheet.proofs.Stepping.{Gives, step-stays}
-use Rattle.cutsheet.specs.Glue.{Roomed, stepFrom, Passed, CutFrom, Sized, closedAt, sessionBy, PayloadCut, PayloadsCut, all, closed, next, State, stateOf, stateBy, stateAfter, statesAfter, StateCut, usableOf}
+use Rattle.cutsheet.specs.Glue.{Roomed, stepFrom, CutFrom, Sized, closedAt, sessionBy, PayloadCut, PayloadsCut, all, closed, next, State, stateOf, stateBy, stateAfter, statesAfter, StateCut, usableOf}
 use Rattle.cutsheet.specs.declared.input.Filled.{Filled}
 use Rattle.cutsheet.specs.declared.output.Output.{Output}
 use Rattle.cutsheet.specs.declared.session.Session.{Session}
@@ -159,14 +159,13 @@ module _ (s₀ s : Session) (b₀ b : Lent) (block : List ℕ) (at : ℕ) (come 
 -- what the output, the rows and the text hold does not count
 module _ (c : CutSheet) (p b o o′ : List ℕ) (r r′ : List ℤ) (t t′ : List ℕ) (hp : length p ≤ payloadSize)
     (ho : outSize ≤ length o) (ho′ : outSize ≤ length o′) (hr : rowsSize ≤ length r) (hr′ : rowsSize ≤ length r′)
-    (ht : tightText (length t) (length r) ≡ false) (ht′ : tightText (length t′) (length r′) ≡ false) where
+    (ht : textSize ≤ length t) (ht′ : textSize ≤ length t′) where
   state-same : stateBy (step c p (lent b o r t)) ≡ stateBy (step c p (lent b o′ r′ t′))
-  unfolding step
   state-same =
-      ap (λ (x : Bool). stateBy (stepIf x c (lent b o r t) u)) ht
+      ap stateBy (step-open c p (lent b o r t) hp ht)
       ∙ pick (u .answer)
-      ∙ ap (λ (a : Answer). stateBy (stepBy a c (lent b o′ r′ t′) v)) (same .answer)
-      ∙ ap (λ (x : Bool). stateBy (stepIf x c (lent b o′ r′ t′) v)) (sym ht′)
+      ∙ ap (λ (a : Answer). stateBy (stepBy a false c (lent b o′ r′ t′) v)) (same .answer)
+      ∙ ap stateBy (sym (step-open c p (lent b o′ r′ t′) hp ht′))
     where
       u : Outcome
       u = pushOf c p (lent b o r t)
@@ -177,15 +176,12 @@ module _ (c : CutSheet) (p b o o′ : List ℕ) (r r′ : List ℤ) (t t′ : Li
       same : Same u v
       same = push-same (c .splitter) p (timeOf (c .begun)) b o o′ r r′ hp ho ho′ hr hr′
 
-      pick : (a : Answer) → stateBy (stepBy a c (lent b o r t) u) ≡ stateBy (stepBy a c (lent b o′ r′ t′) v)
+      pick : (a : Answer) → stateBy (stepBy a false c (lent b o r t) u) ≡ stateBy (stepBy a false c (lent b o′ r′ t′) v)
       pick (Answer.refused k) = refl
       pick (done x n m) = cc (same .state, same .pend)
 
 full {ℓ} : {A : Type ℓ} (n : ℕ) (a : A) → n ≤ length (replicate n a)
 full n a = omega (arith, length-replicate n a)
-
-room-tight : (t r x : ℕ) (y : ℤ) → tightText t r ≡ false → tightText (length (replicate t x)) (length (replicate r y)) ≡ false
-room-tight t r x y e = rw (length-replicate t x, length-replicate r y) e
 
 session-sheet : (a : Wrote) (c : CutSheet) (o : Output) → sessionBy a c o .sheet ≡ c
 session-sheet (refused k) c o = refl
@@ -207,15 +203,14 @@ unfolding stateAfter
 payload-state {s} {t} {p} {was} {is} cut hp =
     let at = cut .output .len in
     let x = stepFrom (s .sheet) p was at in
-    let tight : tightText (length (drop at (was .text))) (length (was .rows)) ≡ false =
-    le-ltb (length (drop at (was .text)) / lineLength) (length (was .rows) / rowWidth)
-    (omega (arith, roomed-most (s .output) (cut .output) (cut .room), cut .sized .rows, cut .sized .text, length-drop at (was .text))) in
+    let long : textSize ≤ length (drop at (was .text)) =
+    omega (arith, roomed-most (s .output) (cut .output) (cut .room), cut .sized .text, length-drop at (was .text)) in
     let sheet : t .sheet ≡ x .state = ap (λ (z : Session). z .sheet) (cut .session) ∙ session-sheet (x .answer) (x .state) (cut .output) in
     let here : stateOf t is ≡ stateBy x = cc (sheet, cut .buffers .pend) in
     here
     ∙ state-same (s .sheet) p (was .pend) (was .out) (replicate outSize 0) (was .rows) (replicate rowsSize (pos 0)) (drop at (was .text))
     (replicate 110565 0) hp (omega (arith, cut .sized .out)) (full {A = ℕ} outSize 0) (omega (arith, cut .sized .rows)) (full rowsSize (pos 0))
-    tight (room-tight 110565 rowsSize 0 (pos 0) refl)
+    long (full {A = ℕ} 110565 0)
 
 -- of payloads one after the other
 pub payloads-state : {s r : Session} {b e : Lent} {ps : List (List ℕ)} → PayloadsCut s b ps r e → AllPayloads ps → StateCut s b ps r e

@@ -1,6 +1,5 @@
 -- A RUN: a step for each payload, one after the other, and all that they write; and the last line. The splitter's output, the rows and the
 -- text may be others for each step; the pending buffer goes from step to step.
-use mathlib.Core.Path.{_≡_}
 use mathlib.Core.List.{List, [], _∷_, _++_}
 use Prim.Native.Nat.{ℕ, _≤_}
 use lib.IntN.{ℤ}
