@@ -10,6 +10,7 @@ use splitter::AudioFrameSplitter;
 use splitter::NewSplitter;
 use splitter::Pts;
 use splitter::Pushed;
+use text::front;
 ghost use Prim.Native.Nat.{_≤_, _<_};
 ghost use lib.ListN.{length};
 
@@ -31,17 +32,12 @@ pub fn run() {
     measure_input(&input, count);
 }
 
-fn read_input(input: &mut [u8; INPUT_MAX]) -> usize
-    ensures { λ r. ⌜ r ≤ 1000064 ⌝ }
-{
+fn read_input(input: &mut [u8; INPUT_MAX]) -> usize {
     io::read_full(STDIN_FILENO, input)
 }
 
-fn measure_input(input: &[u8; INPUT_MAX], count: usize)
-    requires { ⌜ count ≤ 1000064 ⌝ }
-{
-    let all: &[u8] = input;
-    let read = &all[0..count];
+fn measure_input(input: &[u8; INPUT_MAX], count: usize) {
+    let read = front(input, count);
     match parse_setup(read) {
         FirstLine::Read(setup) => measure_setup(read, setup),
         FirstLine::Malformed => malformed(),

@@ -1,2 +1,1 @@
 pub mod Info
-pub mod Request

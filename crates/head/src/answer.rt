@@ -6,6 +6,7 @@ use heads::AudioSyntax;
 use heads::CodedSyntax;
 use text::BLOCK_LEN;
 use text::Output;
+use text::front;
 ghost use mathlib.Core.Path.{_≡_};
 ghost use Prim.Native.Nat.{_+_, _≤_};
 ghost use Rattle.head.specs.Info.{numberAt};
@@ -38,12 +39,9 @@ fn put_head(
     code: u32,
     bytes: &[u8; BYTES_MAX],
     count: usize,
-) -> Output
-    requires { ⌜ count ≤ 128 ⌝ }
-{
+) -> Output {
     let mut info = [0u8; 24];
-    let head: &[u8] = bytes;
-    let number = heads::audio_frame_head(code, &head[0..count], &mut info);
+    let number = heads::audio_frame_head(code, front(bytes, count), &mut info);
     if number == 0 {
         return put_info(out, block, &info);
     }
@@ -57,13 +55,10 @@ fn put_skip(
     code: u32,
     bytes: &[u8; BYTES_MAX],
     count: usize,
-) -> Output
-    requires { ⌜ count ≤ 128 ⌝ }
-{
-    let searched: &[u8] = bytes;
+) -> Output {
     match AudioSyntax::from_code(code) {
         CodedSyntax::Known(syntax) => {
-            let place = syntax.skip_to_sync(&searched[0..count]);
+            let place = syntax.skip_to_sync(front(bytes, count));
             out.put_decimal(block, place as u64).put_byte(block, b'\n')
         }
         CodedSyntax::Refused(refusal) => put_refusal(out, block, refusal.number()),

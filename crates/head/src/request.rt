@@ -6,8 +6,6 @@ use text::Short;
 use text::octet_at;
 use text::parse_short;
 use text::skip;
-ghost use Prim.Native.Nat.{_≤_};
-ghost use Rattle.head.specs.Request.{countOf, bytesOf, codedOf};
 
 // The most bytes that a line may give: well above what any reader looks at, and several of the blocks by which the library skips places.
 pub const BYTES_MAX: usize = 128;
@@ -35,9 +33,7 @@ enum Coded {
     NotCoded,
 }
 
-pub fn parse_request(line: &[u8], bytes: &mut [u8; BYTES_MAX]) -> Request
-    ensures { λ r. ⌜ countOf r ≤ 128 ⌝ }
-{
+pub fn parse_request(line: &[u8], bytes: &mut [u8; BYTES_MAX]) -> Request {
     if line.len() == 0 {
         return Request::Malformed;
     }
@@ -49,9 +45,7 @@ pub fn parse_request(line: &[u8], bytes: &mut [u8; BYTES_MAX]) -> Request
     }
 }
 
-fn parse_head(line: &[u8], bytes: &mut [u8; BYTES_MAX]) -> Request
-    ensures { λ r. ⌜ countOf r ≤ 128 ⌝ }
-{
+fn parse_head(line: &[u8], bytes: &mut [u8; BYTES_MAX]) -> Request {
     let Coded::Both { code, count } = parse_coded(line, 0, bytes) else {
         return Request::Malformed;
     };
@@ -59,9 +53,7 @@ fn parse_head(line: &[u8], bytes: &mut [u8; BYTES_MAX]) -> Request
 }
 
 // The letter s, a space, and what a head line has.
-fn parse_skip(line: &[u8], bytes: &mut [u8; BYTES_MAX]) -> Request
-    ensures { λ r. ⌜ countOf r ≤ 128 ⌝ }
-{
+fn parse_skip(line: &[u8], bytes: &mut [u8; BYTES_MAX]) -> Request {
     let Place::At(start) = skip(line, 1, b' ') else {
         return Request::Malformed;
     };
@@ -72,9 +64,7 @@ fn parse_skip(line: &[u8], bytes: &mut [u8; BYTES_MAX]) -> Request
 }
 
 // The rest of a line from place at on: a syntax code, and the bytes.
-fn parse_coded(line: &[u8], at: usize, bytes: &mut [u8; BYTES_MAX]) -> Coded
-    ensures { λ r. ⌜ codedOf r ≤ 128 ⌝ }
-{
+fn parse_coded(line: &[u8], at: usize, bytes: &mut [u8; BYTES_MAX]) -> Coded {
     let Short::Value { value: code, next } = parse_digits(line, at) else {
         return Coded::NotCoded;
     };
@@ -85,9 +75,7 @@ fn parse_coded(line: &[u8], at: usize, bytes: &mut [u8; BYTES_MAX]) -> Coded
 }
 
 // The letter d, and the samples and the rate, with a space before each. The rate ends the line.
-fn parse_duration(line: &[u8]) -> Request
-    ensures { λ r. ⌜ countOf r ≤ 128 ⌝ }
-{
+fn parse_duration(line: &[u8]) -> Request {
     let Short::Value {
         value: samples,
         next: samples_end,
@@ -124,9 +112,7 @@ fn parse_digits(line: &[u8], at: usize) -> Short {
 }
 
 // The rest of a line from place at on: for each byte a space and two hexadecimal digits.
-fn parse_bytes(line: &[u8], at: usize, bytes: &mut [u8; BYTES_MAX]) -> Bytes
-    ensures { λ r. ⌜ bytesOf r ≤ 128 ⌝ }
-{
+fn parse_bytes(line: &[u8], at: usize, bytes: &mut [u8; BYTES_MAX]) -> Bytes {
     let mut count = 0;
     let mut i = at;
     while i < line.len() {

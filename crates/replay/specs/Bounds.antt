@@ -20,7 +20,7 @@ pub record Fitting (written : Written) : Type 0 where
 abbrev pub Allowed : Request → Type 0
 Allowed (New code) = Unit {0}
 Allowed (Set splitter count) = count ≤ 8200
-Allowed (Push pts lent count) = Lendable lent × (count ≤ 65600)
+Allowed (Push pts lent count) = Lendable lent
 Allowed (Flush lent) = Lendable lent
 Allowed Reset = Unit {0}
 Allowed Unlock = Unit {0}

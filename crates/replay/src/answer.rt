@@ -26,6 +26,7 @@ use splitter::Timing;
 use splitter::Written;
 use text::BLOCK_LEN;
 use text::Output;
+use text::front;
 ghost use Prim.Native.Nat.{_≤_};
 ghost use lib.ListN.{length};
 ghost use Rattle.replay.specs.Bounds.{Lendable, Fitting};
@@ -193,12 +194,12 @@ impl Replay {
         out: &mut [u8; OUT_LEN],
         rows: &mut [i64; ROWS_LEN],
     ) -> Self
-        requires { ⌜ Lendable lent × (count ≤ 65600) ⌝ }
+        requires { ⌜ Lendable lent ⌝ }
     {
         let kept = *pending;
         let splitter = self.splitter;
-        let bytes: &[u8] = payload;
-        let pushed = push_lent(splitter, &bytes[0..count], pts, lent, pending, out, rows);
+        let bytes = front(payload, count);
+        let pushed = push_lent(splitter, bytes, pts, lent, pending, out, rows);
         let answer = pushed.answer;
         let next = pushed.splitter;
         let outcome = Outcome::of_push(answer);

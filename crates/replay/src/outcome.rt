@@ -12,7 +12,7 @@ use splitter::PushAnswer;
 use splitter::Written;
 use text::BLOCK_LEN;
 use text::Output;
-ghost use Prim.Native.Nat.{_≤_};
+use text::front;
 ghost use Rattle.replay.specs.Bounds.{Fitting};
 
 pub enum Outcome {
@@ -82,7 +82,8 @@ pub fn put_answer(
     put_rest(after_buffers, block, answer.intact).put_byte(block, b'\n')
 }
 
-// The rows and the output bytes that were written, and the pending bytes, with a space behind each.
+// The rows and the output bytes that were written, and the pending bytes, with a space behind each. Where the state says that more is
+// pending than the buffer has, all of it is shown.
 fn put_buffers(
     output: Output,
     block: &mut [u8; BLOCK_LEN],
@@ -95,8 +96,8 @@ fn put_buffers(
     requires { ⌜ Fitting written ⌝ }
 {
     let after_rows = put_rows(output, block, rows, written.rows).put_byte(block, b' ');
-    let after_out = put_written(after_rows, block, written.bytes, out).put_byte(block, b' ');
-    put_pending(after_out, block, len, pending).put_byte(block, b' ')
+    let after_out = put_octets(after_rows, block, front(out, written.bytes)).put_byte(block, b' ');
+    put_octets(after_out, block, front(pending, len)).put_byte(block, b' ')
 }
 
 fn put_outcome(output: Output, block: &mut [u8; BLOCK_LEN], outcome: Outcome) -> Output {
@@ -116,32 +117,6 @@ fn put_counts(output: Output, block: &mut [u8; BLOCK_LEN], written: Written) -> 
     let after_mark = output.put_text(block, b"t,");
     let after_rows = put_field(after_mark, block, written.rows as u64, b',');
     after_rows.put_decimal(block, written.bytes as u64)
-}
-
-fn put_written(
-    output: Output,
-    block: &mut [u8; BLOCK_LEN],
-    count: usize,
-    out: &[u8; OUT_LEN],
-) -> Output
-    requires { ⌜ count ≤ 73800 ⌝ }
-{
-    let bytes: &[u8] = out;
-    put_octets(output, block, &bytes[0..count])
-}
-
-// The front of the pending buffer: all of it where the state says that more is pending.
-fn put_pending(
-    output: Output,
-    block: &mut [u8; BLOCK_LEN],
-    len: usize,
-    pending: &[u8; PENDING_LEN],
-) -> Output {
-    let bytes: &[u8] = pending;
-    if len > PENDING_LEN {
-        return put_octets(output, block, bytes);
-    }
-    put_octets(output, block, &bytes[0..len])
 }
 
 fn put_rest(output: Output, block: &mut [u8; BLOCK_LEN], intact: bool) -> Output {

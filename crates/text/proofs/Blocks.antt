@@ -1,12 +1,11 @@
 -- Texts that are put one behind the other, and the digits of a number. Assumes nothing.
 use mathlib.Core.Path.{_≡_, refl, sym, _∙_, ap}
-use mathlib.Core.Bool.{true}
 use mathlib.Core.List.{List, [], _∷_, _++_}
 use Prim.Native.Nat.{ℕ, zero, suc, _+_, _-_, _/_, _%_, _^_, _≤_, _<_}
 use native.Mathlib.Numerals.{add-one}
 use native.Mathlib.Nat.{not-suc-le-zero}
 use native.Mathlib.Omega.{arith}
-use lib.ListN.{length, getD, take, set}
+use lib.ListN.{length, length-append, getD, take, set}
 use lib.Seq.{take-suc}
 use borrow.Author.Tests.{lt-ltb, le-ltb}
 use Rattle.io.specs.Digits.{Fewest, digits as ioDigits}
@@ -29,6 +28,7 @@ put-within byte output block h = record {
   len = rw (place-within (output .len) h);
   block = rw (place-within (output .len) h);
   failed = λ e. e;
+  room = λ e. refl;
 }
 
 pub put-full : (byte : ℕ) (output written : Output) (block : List ℕ) → 8192 ≤ output .len → Written output written
@@ -37,6 +37,7 @@ put-full byte output written block h w = record {
   len = rw (place-full (output .len) h);
   block = rw (place-full (output .len) h);
   failed = w .failed;
+  room = λ e. absurd (let no : ⊥ = omega arith in no);
 }
 
 -- ---- a text
@@ -50,14 +51,24 @@ block-append [] t len block = refl
 block-append (b ∷ s) t len block = block-append s t (nextPlace len + 1) (set block (nextPlace len) b)
 
 pub put-none : (output : Output) (block : List ℕ) → Put [] output output block block
-put-none output block = record { len = refl; block = refl; failed = λ e. e }
+put-none output block = record { len = refl; block = refl; failed = λ e. e; room = λ e. refl }
+
+-- while there is room, each byte stands behind the one before
+len-within : (s : List ℕ) (len : ℕ) → len + length s ≤ 8192 → lenAfter s len ≡ len + length s
+len-within [] len h = omega arith
+len-within (b ∷ s) len h = rw (place-within len (omega arith)) (omega (arith, len-within s (len + 1) (omega arith)))
 
 pub put-both : {s t : List ℕ} {a b c : Output} {first second third : List ℕ} → Put s a b first second → Put t b c second third → Put (s ++ t) a c first third
-put-both {s} {t} {a} {b} {c} {first} {second} {third} p q = record {
-  len = q .len ∙ ap (lenAfter t) (p .len) ∙ sym (len-append s t (a .len));
-  block = rw (block-append s t (a .len) first, ← p .len, ← p .block) (q .block);
-  failed = λ e. q .failed (p .failed e);
-}
+put-both {s} {t} {a} {b} {c} {first} p q =
+    let roomy : a .len + length (s ++ t) ≤ 8192 → b .len + length t ≤ 8192 =
+    λ e. omega (arith, length-append s t, p .len, len-within s (a .len) (omega (arith, length-append s t)))
+    in
+    record {
+      len = q .len ∙ ap (lenAfter t) (p .len) ∙ sym (len-append s t (a .len));
+      block = rw (block-append s t (a .len) first, ← p .len, ← p .block) (q .block);
+      failed = λ e. q .failed (p .failed e);
+      room = λ e. q .room (roomy e) ∙ p .room (omega (arith, length-append s t));
+    }
 
 -- a byte more of a text
 pub put-next : {a b c : Output} {first second third : List ℕ} (text : List ℕ) (i : ℕ) → i < length text → Put (take i text) a b first second → Put (getD text i 0 ∷ []) b c second third

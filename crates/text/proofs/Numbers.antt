@@ -10,7 +10,7 @@ use lib.ListN.{length, getD, drop, length-drop, drop-of-length-le}
 use lib.Seq.{drop-cons}
 use borrow.Author.Tests.{lt-ltb, le-ltb, le-leb, lt-leb, eq-eqb, ne-eqb, leb-true, ltb-true}
 use Rattle.text.specs.Octet.{digitValue}
-use Rattle.text.specs.Number.{placeAfter, leading, valueFrom, numberOf, numberAt, numberFrom, numberAfter, shortOf, shortMost, shortAt, shortFrom, shortAfter}
+use Rattle.text.specs.Number.{placeAfter, leading, valueFrom, numberOf, numberAt, numberFrom, numberAfter, shortOf, shortMost, shortAt, shortAfter}
 use Rattle.text.specs.declared.number.Place.{Place}
 use Rattle.text.specs.declared.number.Place.the-variants.{At, Nowhere}
 use Rattle.text.specs.declared.number.Number.{Number}

@@ -2,9 +2,9 @@
 use mathlib.Core.Path.{_≡_}
 use mathlib.Core.Bool.{true, cond}
 use mathlib.Core.List.{List, [], _∷_, _++_}
-use Prim.Native.Nat.{ℕ, zero, suc, _+_, _/_, _%_}
+use Prim.Native.Nat.{ℕ, zero, suc, _+_, _/_, _%_, _≤_}
 use lib.Dec.{ltb}
-use lib.ListN.{set}
+use lib.ListN.{length, set}
 use Rattle.text.specs.declared.output.Output.{Output}
 
 -- where the next byte stands: behind the others, or at the front once the block is full
@@ -20,13 +20,14 @@ abbrev pub blockAfter : List ℕ → ℕ → List ℕ → List ℕ
 blockAfter [] len block = block
 blockAfter (b ∷ text) len block = blockAfter text (nextPlace len + 1) (set block (nextPlace len) b)
 
--- a text is put. Nothing says when a write fails; that one did is not forgotten
+-- a text is put. Nothing is written while the block has room, and that a write failed is not forgotten
 pub record Put (text : List ℕ) (before after : Output) (entry exit : List ℕ) : Type 0 where
   pub len : after .len ≡ lenAfter text (before .len)
   pub block : exit ≡ blockAfter text (before .len) entry
   pub failed : before .failed ≡ true → after .failed ≡ true
+  pub room : before .len + length text ≤ 8192 → after .failed ≡ before .failed
 
--- the block is written
+-- the block is written, as far as it is filled
 pub record Written (before after : Output) : Type 0 where
   pub len : after .len ≡ 0
   pub failed : before .failed ≡ true → after .failed ≡ true

@@ -3,6 +3,7 @@ mod line;
 mod number;
 mod octet;
 mod output;
+mod part;
 
 pub use line::Line;
 pub use number::Number;
@@ -19,3 +20,4 @@ pub use octet::low_digit;
 pub use octet::octet_at;
 pub use output::BLOCK_LEN;
 pub use output::Output;
+pub use part::front;

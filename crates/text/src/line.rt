@@ -1,4 +1,5 @@
 // A line as it is collected, byte by byte, in a lent slice.
+use crate::part::front;
 ghost use mathlib.Core.Path.{_≡_};
 ghost use mathlib.Core.Bool.{false};
 ghost use lib.ListN.{length, take, set};
@@ -43,10 +44,6 @@ impl Line {
     pub fn bytes(self, text: &[u8]) -> &[u8]
         ensures { λ r. ⌜ now r ≡ take (self .len) (now (text .entry)) ⌝ }
     {
-        let len = self.len;
-        if len < text.len() {
-            return &text[0..len];
-        }
-        text
+        front(text, self.len)
     }
 }

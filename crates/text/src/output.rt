@@ -1,9 +1,10 @@
 // Output, collected in a lent block and written in one piece: a write for each byte would cost more than what the programs do between.
 // That the blocks reach standard output in their order is tested, not proved: files mean nothing in a contract.
+use crate::part::front;
 use libc::STDOUT_FILENO;
 ghost use mathlib.Core.Path.{_≡_};
+ghost use mathlib.Core.Bool.{false};
 ghost use mathlib.Core.List.{_∷_, []};
-ghost use Prim.Native.Nat.{_≤_};
 ghost use Rattle.text.specs.Output.{Put, Written, decimal};
 
 pub const BLOCK_LEN: usize = 8192;
@@ -17,7 +18,7 @@ pub struct Output {
 
 impl Output {
     pub fn new() -> Self
-        ensures { λ r. ⌜ r .len ≡ 0 ⌝ }
+        ensures { λ r. ⌜ (r .len ≡ 0) × (r .failed ≡ false) ⌝ }
     {
         Output {
             len: 0,
@@ -73,18 +74,10 @@ impl Output {
                 failed: true,
             };
         }
-        let len = least(self.len, BLOCK_LEN);
-        let bytes: &[u8] = block;
-        let written = io::write_all(STDOUT_FILENO, &bytes[0..len]);
+        let written = io::write_all(STDOUT_FILENO, front(block, self.len));
         Output {
             len: 0,
             failed: !written,
         }
     }
-}
-
-fn least(a: usize, b: usize) -> usize
-    ensures { λ r. ⌜ r ≤ b ⌝ }
-{
-    if a < b { a } else { b }
 }

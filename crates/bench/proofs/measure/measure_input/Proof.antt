@@ -4,14 +4,8 @@ use borrow.Author.Needs.{needs}
 use Rattle.bench.proofs.measure.measure_input.Statement.{statement}
 use Rattle.bench.proofs.measure.measure_input.Tie as tie
 
-sub-read : tie.Need-sub-read
-sub-read c = search needs
-
-part-read-start : tie.Need-part-read-start
-part-read-start c = search needs
-
-part-read-end : tie.Need-part-read-end
-part-read-end c = search needs
+front-requires : tie.Need-front-requires
+front-requires c κs = search needs
 
 parse-setup-requires : tie.Need-parse-setup-requires
 parse-setup-requires c κs = search needs
@@ -40,9 +34,7 @@ pub measure-input-spec : {M : Type 1} → statement M
 measure-input-spec =
     tie.close
     (tie.spec
-    sub-read
-    part-read-start
-    part-read-end
+    front-requires
     parse-setup-requires
     enum-known-setup
     measure-setup-requires

@@ -1,8 +1,5 @@
--- `parse_push` is safe, and the lengths and the bytes that it answers are within the limits.
+-- `parse_push` is safe, and the lengths that it answers are within the buffers.
 use Rattle.replay.proofs.Words.{lendable}
-use mathlib.Core.Path.{ap}
-use native.Mathlib.Omega.{arith}
-use Rattle.replay.specs.Words.{bytesOf}
 use borrow.Author.Needs.{needs}
 use Rattle.replay.proofs.request.parse_push.Statement.{statement}
 use Rattle.replay.proofs.request.parse_push.Tie as tie
@@ -57,11 +54,8 @@ returns-4 c = search needs
 
 returns-5 : tie.Need-returns-5
 returns-5 c =
-    let count = c .before in
-    let lent = count .before .before .before .before .before in (
-      lendable (lent .lent .given .1) (lent .before .before .parse-lent .ensures),
-      omega (arith, ap bytesOf (count .count .given .1), count .before .before .parse-bytes .ensures),
-    )
+    let lent = c .before .before .before .before .before .before in
+    lendable (lent .lent .given .1) (lent .before .before .parse-lent .ensures)
 
 pub parse-push-spec : {M : Type 1} → statement M
 parse-push-spec =

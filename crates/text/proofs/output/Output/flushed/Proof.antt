@@ -6,17 +6,8 @@ use Rattle.text.proofs.output.Output.flushed.Tie as tie
 returns : tie.Need-returns
 returns c = search needs
 
-least-requires : tie.Need-least-requires
-least-requires c κs = search needs
-
-sub-write-all : tie.Need-sub-write-all
-sub-write-all c = search needs
-
-part-write-all-start : tie.Need-part-write-all-start
-part-write-all-start c = search needs
-
-part-write-all-end : tie.Need-part-write-all-end
-part-write-all-end c = search needs
+front-requires : tie.Need-front-requires
+front-requires c κs = search needs
 
 write-all-requires : tie.Need-write-all-requires
 write-all-requires c κs = search needs
@@ -25,13 +16,4 @@ returns-2 : tie.Need-returns-2
 returns-2 c = record { len = search needs; failed = λ e. search needs }
 
 pub flushed-spec : {M : Type 1} → statement M
-flushed-spec =
-    tie.close
-    (tie.spec
-    returns
-    least-requires
-    sub-write-all
-    part-write-all-start
-    part-write-all-end
-    write-all-requires
-    returns-2)
+flushed-spec = tie.close (tie.spec returns front-requires write-all-requires returns-2)

@@ -1,6 +1,4 @@
 -- The digits that are put are those of the number.
-use denote.Ref.{now}
-use mathlib.Core.Path.{_∙_, sym}
 use Rattle.text.proofs.Blocks.{decimal-is}
 use borrow.Author.Needs.{needs}
 use Rattle.text.proofs.output.Output.put_decimal.Statement.{statement}

@@ -5,8 +5,8 @@ use native.Mathlib.Nat.{sub-zero}
 use lib.Seq.{take-all}
 use mathlib.Core.Path.{sym}
 use borrow.Author.Needs.{needs}
-use Rattle.text.proofs.line.Line.bytes.Statement.{statement}
-use Rattle.text.proofs.line.Line.bytes.Tie as tie
+use Rattle.text.proofs.part.front.Statement.{statement}
+use Rattle.text.proofs.part.front.Tie as tie
 
 sub-result : tie.Need-sub-result
 sub-result c = search needs
@@ -21,7 +21,7 @@ returns : tie.Need-returns
 returns c = rw sub-zero
 
 returns-2 : tie.Need-returns-2
-returns-2 c = sym (take-all (c .before .args .self .len) (now (c .before .args .text)) (omega arith))
+returns-2 c = sym (take-all (c .before .args .len) (now (c .before .args .bytes)) (omega arith))
 
-pub bytes-spec : {M : Type 1} → statement M
-bytes-spec = tie.close (tie.spec sub-result part-result-start part-result-end returns returns-2)
+pub front-spec : {M : Type 1} → statement M
+front-spec = tie.close (tie.spec sub-result part-result-start part-result-end returns returns-2)
