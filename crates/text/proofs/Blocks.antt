@@ -6,7 +6,7 @@ use native.Mathlib.Numerals.{add-one}
 use native.Mathlib.Nat.{not-suc-le-zero}
 use native.Mathlib.Omega.{arith}
 use lib.ListN.{length, length-append, getD, take, set}
-use lib.Seq.{take-suc}
+use lib.Seq.{take-suc, take-length}
 use borrow.Author.Tests.{lt-ltb, le-ltb}
 use Rattle.io.specs.Digits.{Fewest, digits as ioDigits}
 use Rattle.text.specs.Output.{nextPlace, lenAfter, blockAfter, Put, Written, digits, decimal}
@@ -74,6 +74,24 @@ put-both {s} {t} {a} {b} {c} {first} p q =
 pub put-next : {a b c : Output} {first second third : List ℕ} (text : List ℕ) (i : ℕ) → i < length text → Put (take i text) a b first second → Put (getD text i 0 ∷ []) b c second third
     → Put (take (i + 1) text) a c first third
 put-next text i h p q = rw (add-one i, take-suc text i 0 h) (put-both p q)
+
+-- a run of bytes for which there is room: i of them stand in the block
+abbrev pub afterRun : Output → ℕ → Output
+afterRun output i = record { len = output .len + i; failed = output .failed }
+
+pub run-none : (output : Output) (block : List ℕ) → Put [] output (afterRun output 0) block block
+run-none output block = record { len = omega arith; block = refl; failed = λ e. e; room = λ e. refl }
+
+pub run-next : {first second : List ℕ} (output : Output) (text : List ℕ) (i : ℕ) → i < length text → output .len + length text ≤ 8192 → Put (take i text) output (afterRun output i) first second
+    → Put (take (i + 1) text) output (afterRun output (i + 1)) first (set second (output .len + i) (getD text i 0))
+run-next {second = second} output text i h room p =
+    let next : output .len + i + 1 ≡ output .len + (i + 1) = omega arith in
+    put-next text i h p (rw next at (put-within (getD text i 0) (afterRun output i) second (omega arith)))
+
+-- all of them
+pub run-done : {first second : List ℕ} (output : Output) (text : List ℕ) (i : ℕ) → i ≡ length text → Put (take i text) output (afterRun output i) first second
+    → Put text output (afterRun output (length text)) first second
+run-done output text i h p = rw (h, take-length text) at p
 
 -- ---- the digits of a number
 

@@ -5,6 +5,8 @@ use libc::STDOUT_FILENO;
 ghost use mathlib.Core.Path.{_≡_};
 ghost use mathlib.Core.Bool.{false};
 ghost use mathlib.Core.List.{_∷_, []};
+ghost use Prim.Native.Nat.{_+_, _≤_};
+ghost use lib.ListN.{length};
 ghost use Rattle.text.specs.Output.{Put, Written, decimal};
 
 pub const BLOCK_LEN: usize = 8192;
@@ -46,7 +48,35 @@ impl Output {
         }
     }
 
+    // A text for which the block has room is copied in one run.
     pub fn put_text(self, block: &mut [u8; BLOCK_LEN], text: &[u8]) -> Self
+        ensures { λ r. ⌜ Put (now (text .entry)) self r (now (block .entry)) (now (block .exit)) ⌝ }
+    {
+        let len = self.len;
+        if len >= BLOCK_LEN {
+            return self.put_each(block, text);
+        }
+        if text.len() > BLOCK_LEN - len {
+            return self.put_each(block, text);
+        }
+        self.put_run(block, text)
+    }
+
+    fn put_run(self, block: &mut [u8; BLOCK_LEN], text: &[u8]) -> Self
+        requires { ⌜ self .len + length (now text) ≤ 8192 ⌝ }
+        ensures { λ r. ⌜ Put (now (text .entry)) self r (now (block .entry)) (now (block .exit)) ⌝ }
+    {
+        let len = self.len;
+        for i in 0..text.len() {
+            block[len + i] = text[i];
+        }
+        Output {
+            len: len + text.len(),
+            failed: self.failed,
+        }
+    }
+
+    fn put_each(self, block: &mut [u8; BLOCK_LEN], text: &[u8]) -> Self
         ensures { λ r. ⌜ Put (now (text .entry)) self r (now (block .entry)) (now (block .exit)) ⌝ }
     {
         let mut out = self;

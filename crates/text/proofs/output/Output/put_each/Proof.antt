@@ -8,8 +8,8 @@ use denote.Ref.{now}
 use Rattle.text.specs.Output.{Put}
 use Rattle.text.proofs.Blocks.{put-none, put-next}
 use borrow.Author.Needs.{needs}
-use Rattle.text.proofs.output.Output.put_text.Statement.{statement}
-use Rattle.text.proofs.output.Output.put_text.Tie as tie
+use Rattle.text.proofs.output.Output.put_each.Statement.{statement}
+use Rattle.text.proofs.output.Output.put_each.Tie as tie
 
 abbrev Inv-loop : tie.InvT-loop
 Inv-loop block₀ text out₀ i₀ i-end block out i = (i-end ≡ length text) × (i ≤ length text) × Put (take i text) out₀ out block₀ block
@@ -44,8 +44,8 @@ returns c =
     let h = c .before .loop in
     rw (take-all (h .i) (now (s .text)) (omega arith)) at (h .inv .2)
 
-pub put-text-spec : {M : Type 1} → statement M
-put-text-spec =
+pub put-each-spec : {M : Type 1} → statement M
+put-each-spec =
     tie.close
     (tie.spec
     Inv-loop
