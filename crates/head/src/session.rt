@@ -5,6 +5,7 @@ use libc::STDIN_FILENO;
 use text::BLOCK_LEN;
 use text::Line;
 use text::Output;
+use text::report;
 
 // How many bytes of a line are kept. No well formed line has more than 396.
 const LINE_MAX: usize = 512;
@@ -31,14 +32,19 @@ pub fn run() {
         session = session.read_some(&mut text, &mut block);
         turns -= 1;
     }
-    session.finish(&text, &mut block).flushed(&block);
+    report_write(session.finish(&text, &mut block).flushed(&block));
+}
+
+fn report_write(output: Output) {
+    report(output.failed, b"head: cannot write\n");
 }
 
 impl Session {
-    // Reads once and takes what came. A read that fails counts as the end of the input.
+    // Reads once and takes what came. A read that fails is told, and counts as the end of the input.
     fn read_some(self, text: &mut [u8; LINE_MAX], block: &mut [u8; BLOCK_LEN]) -> Self {
         let mut input = io::large_buffer();
         let got = libc::read(STDIN_FILENO, &mut input);
+        report(got < 0, b"head: cannot read\n");
         if got <= 0 {
             return self.closed();
         }

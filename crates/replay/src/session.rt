@@ -10,6 +10,7 @@ use libc::STDIN_FILENO;
 use text::BLOCK_LEN;
 use text::Line;
 use text::Output;
+use text::report;
 
 // How many bytes of a line are kept: enough for the longest payload in one word. A longer line is malformed.
 const LINE_MAX: usize = 140000;
@@ -45,16 +46,19 @@ pub fn run() {
         );
         turns -= 1;
     }
-    session
-        .finish(
-            &text,
-            &mut block,
-            &mut payload,
-            &mut pending,
-            &mut out,
-            &mut rows,
-        )
-        .flushed(&block);
+    let output = session.finish(
+        &text,
+        &mut block,
+        &mut payload,
+        &mut pending,
+        &mut out,
+        &mut rows,
+    );
+    report_write(output.flushed(&block));
+}
+
+fn report_write(output: Output) {
+    report(output.failed, b"replay: cannot write\n");
 }
 
 impl Session {
@@ -66,7 +70,7 @@ impl Session {
         }
     }
 
-    // Reads once and takes what came. A read that fails counts as the end of the input.
+    // Reads once and takes what came. A read that fails is told, and counts as the end of the input.
     fn read_some(
         self,
         text: &mut [u8; LINE_MAX],
@@ -78,6 +82,7 @@ impl Session {
     ) -> Self {
         let mut input = io::large_buffer();
         let got = libc::read(STDIN_FILENO, &mut input);
+        report(got < 0, b"replay: cannot read\n");
         if got <= 0 {
             return self.closed();
         }

@@ -20,4 +20,5 @@ pub use octet::low_digit;
 pub use octet::octet_at;
 pub use output::BLOCK_LEN;
 pub use output::Output;
+pub use output::report;
 pub use part::front;

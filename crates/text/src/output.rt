@@ -1,6 +1,7 @@
 // Output, collected in a lent block and written in one piece: a write for each byte would cost more than what the programs do between.
 // That the blocks reach standard output in their order is tested, not proved: files mean nothing in a contract.
 use crate::part::front;
+use libc::STDERR_FILENO;
 use libc::STDOUT_FILENO;
 ghost use mathlib.Core.Path.{_≡_};
 ghost use mathlib.Core.Bool.{false};
@@ -109,5 +110,12 @@ impl Output {
             len: 0,
             failed: !written,
         }
+    }
+}
+
+// Says a message on standard error where a read or a write failed: a program of this language has no exit status.
+pub fn report(failed: bool, message: &[u8]) {
+    if failed {
+        io::write_all(STDERR_FILENO, message);
     }
 }
