@@ -22,21 +22,24 @@ use Rattle.splitter.specs.Stamp.{Frame, far, farPts, badAnchor, badTimin
 use Rattle.splitter.specs.Push.{Event, event, badState, badCount, tightOf, refusalOf, push}
 use Rattle.splitter.specs.Demand.{tailAt, limit, stamped, Whole, Given3, Meets3}
 use Rattle.splitter.specs.declared.timing.Pts.{Pts}
-use Rattle.splitter.specs.declared.timing.Pts.the-variants.{At}
+use Rattle.splitter.specs.declared.timing.Pts.the-variants.{At, Absent}
 use Rattle.splitter.proofs.Demand3.{demand3}
 
 -- a push that is lent o bytes of output, the front of its pending buffer holding these bytes
 abbrev pub lent : ℕ → List ℕ → List ℕ → Pts → Event
 lent o had p t = event p t (had ++ replicate 8190 4) (replicate o 0) (replicate 80 (pos 9))
 
--- three times the frame f, cut after a bytes of the second and b bytes of the third
+-- three times the frame f, cut after a bytes of the second and b bytes of the third. Beside the four pushes that bring them, one of which brings
+-- nothing and has no timestamp, five are refused: by 10, by 12 for the pending buffer, the rows and the output, and by 10 once more
 abbrev pub pushes : List ℕ → ℕ → ℕ → List Event
 pushes f a b =
     lent 90 [] f (At (pos (2 ^ 62 + 1)))
+    ∷ event f (At (pos 8)) (replicate 8189 4) (replicate 90 0) (replicate 80 (pos 9))
+    ∷ event f (At (pos 9)) (replicate 8190 4) (replicate 90 0) (replicate 7 (pos 9))
     ∷ lent (length f + a) [] (f ++ take a f) (At (pos 1000))
     ∷ lent (length f + b - 1) (take a f) (drop a f ++ take b f) (At (pos 77))
     ∷ lent (length f + b) (take a f) (drop a f ++ take b f) (At (pos 4000))
-    ∷ lent b (take b f) [] (At (pos 5000))
+    ∷ lent b (take b f) [] Absent
     ∷ lent 90 [] (1 ∷ 2 ∷ 3 ∷ []) (At (negsuc (2 ^ 62)))
     ∷ lent (length f) (take b f) (drop b f) (At (pos 9000))
     ∷ []
@@ -73,7 +76,7 @@ given-eac3 =
 pub meets-eac3 : Meets3 0 Ac3 (eac3 ∷ eac3 ∷ eac3 ∷ []) (pushes eac3 3 7)
 meets-eac3 = demand3 0 Ac3 1536 48000 (eac3 ∷ eac3 ∷ eac3 ∷ []) (pushes eac3 3 7) given-eac3
 
-stamps-eac3 : map (λ (f : Frame). f .stamp) (stamped (headOf Ac3) (eac3 ∷ eac3 ∷ eac3 ∷ []) (pushes eac3 3 7)) ≡ At (pos 1000) ∷ At (pos 3880) ∷ At (pos 4000) ∷ []
+pub stamps-eac3 : map (λ (f : Frame). f .stamp) (stamped (headOf Ac3) (eac3 ∷ eac3 ∷ eac3 ∷ []) (pushes eac3 3 7)) ≡ At (pos 1000) ∷ At (pos 3880) ∷ At (pos 4000) ∷ []
 unfolding headOf a52Head byBsid nfchans eac3Judged eac3TailWidths fscod2Bits numblkscodBits refuseIf number far farPts tightOf tailAt limit
 stamps-eac3 = refl
 
@@ -109,7 +112,7 @@ given-mpeg =
 pub meets-mpeg : Meets3 1 MpegAudio (mpeg ∷ mpeg ∷ mpeg ∷ []) (pushes mpeg 2 3)
 meets-mpeg = demand3 1 MpegAudio 576 24000 (mpeg ∷ mpeg ∷ mpeg ∷ []) (pushes mpeg 2 3) given-mpeg
 
-stamps-mpeg : map (λ (f : Frame). f .stamp) (stamped (headOf MpegAudio) (mpeg ∷ mpeg ∷ mpeg ∷ []) (pushes mpeg 2 3)) ≡ At (pos 1000) ∷ At (pos 3160) ∷ At (pos 4000) ∷ []
+pub stamps-mpeg : map (λ (f : Frame). f .stamp) (stamped (headOf MpegAudio) (mpeg ∷ mpeg ∷ mpeg ∷ []) (pushes mpeg 2 3)) ≡ At (pos 1000) ∷ At (pos 3160) ∷ At (pos 4000) ∷ []
 unfolding headOf mpegHead mpegJudged mpegKbps mpegRate mpegShape layer3Shape mpegChannels refuseIf number far farPts tightOf tailAt limit
 stamps-mpeg = refl
 
@@ -145,6 +148,6 @@ given-adts =
 pub meets-adts : Meets3 2 AacAdts (adts ∷ adts ∷ adts ∷ []) (pushes adts 3 6)
 meets-adts = demand3 2 AacAdts 1024 44100 (adts ∷ adts ∷ adts ∷ []) (pushes adts 3 6) given-adts
 
-stamps-adts : map (λ (f : Frame). f .stamp) (stamped (headOf AacAdts) (adts ∷ adts ∷ adts ∷ []) (pushes adts 3 6)) ≡ At (pos 1000) ∷ At (pos 3089) ∷ At (pos 4000) ∷ []
+pub stamps-adts : map (λ (f : Frame). f .stamp) (stamped (headOf AacAdts) (adts ∷ adts ∷ adts ∷ []) (pushes adts 3 6)) ≡ At (pos 1000) ∷ At (pos 3089) ∷ At (pos 4000) ∷ []
 unfolding headOf adtsHead adtsJudged adtsHeaderLength refuseIf number far farPts tightOf tailAt limit
 stamps-adts = refl
