@@ -30,13 +30,12 @@ abbrev pub lent : ℕ → List ℕ → List ℕ → Pts → Event
 lent o had p t = event p t (had ++ replicate 8190 4) (replicate o 0) (replicate 80 (pos 9))
 
 -- three times the frame f, cut after a bytes of the second and b bytes of the third. Beside the four pushes that bring them, one of which brings
--- nothing and has no timestamp, five are refused: by 10, by 12 for the pending buffer, the rows and the output, and by 10 once more
-abbrev pub pushes : List ℕ → ℕ → ℕ → List Event
-pushes f a b =
+-- nothing and has no timestamp, three are refused, by 10, by 12 for the output and by 10 once more; and so may be others before
+abbrev pub pushes : List Event → List ℕ → ℕ → ℕ → List Event
+pushes before f a b =
     lent 90 [] f (At (pos (2 ^ 62 + 1)))
-    ∷ event f (At (pos 8)) (replicate 8189 4) (replicate 90 0) (replicate 80 (pos 9))
-    ∷ event f (At (pos 9)) (replicate 8190 4) (replicate 90 0) (replicate 7 (pos 9))
-    ∷ lent (length f + a) [] (f ++ take a f) (At (pos 1000))
+    ∷ before
+    ++ lent (length f + a) [] (f ++ take a f) (At (pos 1000))
     ∷ lent (length f + b - 1) (take a f) (drop a f ++ take b f) (At (pos 77))
     ∷ lent (length f + b) (take a f) (drop a f ++ take b f) (At (pos 4000))
     ∷ lent b (take b f) [] Absent
@@ -59,7 +58,7 @@ whole-eac3 =
       long = lit≤ tt;
     }
 
-pub given-eac3 : Given3 0 Ac3 1536 48000 (eac3 ∷ eac3 ∷ eac3 ∷ []) (pushes eac3 3 7)
+pub given-eac3 : Given3 0 Ac3 1536 48000 (eac3 ∷ eac3 ∷ eac3 ∷ []) (pushes [] eac3 3 7)
 unfolding needOf headOf syntaxOf a52Head byBsid nfchans eac3Judged eac3TailWidths fscod2Bits numblkscodBits refuseIf number far farPts badAnchor badTiming manySince manyFrames forgotten give keep keepTail emptied badState badCount tightOf refusalOf push tailAt limit
 given-eac3 =
     record {
@@ -73,10 +72,10 @@ given-eac3 =
       carried = (refl, (refl, (refl, (refl, tt))));
     }
 
-pub meets-eac3 : Meets3 0 Ac3 (eac3 ∷ eac3 ∷ eac3 ∷ []) (pushes eac3 3 7)
-meets-eac3 = demand3 0 Ac3 1536 48000 (eac3 ∷ eac3 ∷ eac3 ∷ []) (pushes eac3 3 7) given-eac3
+pub meets-eac3 : Meets3 0 Ac3 (eac3 ∷ eac3 ∷ eac3 ∷ []) (pushes [] eac3 3 7)
+meets-eac3 = demand3 0 Ac3 1536 48000 (eac3 ∷ eac3 ∷ eac3 ∷ []) (pushes [] eac3 3 7) given-eac3
 
-pub stamps-eac3 : map (λ (f : Frame). f .stamp) (stamped (headOf Ac3) (eac3 ∷ eac3 ∷ eac3 ∷ []) (pushes eac3 3 7)) ≡ At (pos 1000) ∷ At (pos 3880) ∷ At (pos 4000) ∷ []
+pub stamps-eac3 : map (λ (f : Frame). f .stamp) (stamped (headOf Ac3) (eac3 ∷ eac3 ∷ eac3 ∷ []) (pushes [] eac3 3 7)) ≡ At (pos 1000) ∷ At (pos 3880) ∷ At (pos 4000) ∷ []
 unfolding headOf a52Head byBsid nfchans eac3Judged eac3TailWidths fscod2Bits numblkscodBits refuseIf number far farPts tightOf tailAt limit
 stamps-eac3 = refl
 
@@ -95,7 +94,7 @@ whole-mpeg =
       long = lit≤ tt;
     }
 
-pub given-mpeg : Given3 1 MpegAudio 576 24000 (mpeg ∷ mpeg ∷ mpeg ∷ []) (pushes mpeg 2 3)
+pub given-mpeg : Given3 1 MpegAudio 576 24000 (mpeg ∷ mpeg ∷ mpeg ∷ []) (pushes [] mpeg 2 3)
 unfolding needOf headOf syntaxOf mpegHead mpegJudged mpegKbps mpegRate mpegShape layer3Shape mpegChannels refuseIf number far farPts badAnchor badTiming manySince manyFrames forgotten give keep keepTail emptied badState badCount tightOf refusalOf push tailAt limit
 given-mpeg =
     record {
@@ -109,17 +108,23 @@ given-mpeg =
       carried = (refl, (refl, (refl, (refl, tt))));
     }
 
-pub meets-mpeg : Meets3 1 MpegAudio (mpeg ∷ mpeg ∷ mpeg ∷ []) (pushes mpeg 2 3)
-meets-mpeg = demand3 1 MpegAudio 576 24000 (mpeg ∷ mpeg ∷ mpeg ∷ []) (pushes mpeg 2 3) given-mpeg
+pub meets-mpeg : Meets3 1 MpegAudio (mpeg ∷ mpeg ∷ mpeg ∷ []) (pushes [] mpeg 2 3)
+meets-mpeg = demand3 1 MpegAudio 576 24000 (mpeg ∷ mpeg ∷ mpeg ∷ []) (pushes [] mpeg 2 3) given-mpeg
 
-pub stamps-mpeg : map (λ (f : Frame). f .stamp) (stamped (headOf MpegAudio) (mpeg ∷ mpeg ∷ mpeg ∷ []) (pushes mpeg 2 3)) ≡ At (pos 1000) ∷ At (pos 3160) ∷ At (pos 4000) ∷ []
+pub stamps-mpeg : map (λ (f : Frame). f .stamp) (stamped (headOf MpegAudio) (mpeg ∷ mpeg ∷ mpeg ∷ []) (pushes [] mpeg 2 3)) ≡ At (pos 1000) ∷ At (pos 3160) ∷ At (pos 4000) ∷ []
 unfolding headOf mpegHead mpegJudged mpegKbps mpegRate mpegShape layer3Shape mpegChannels refuseIf number far farPts tightOf tailAt limit
 stamps-mpeg = refl
 
--- ---- ADTS, the frame as short as the need
+-- ---- ADTS, the frame as short as the need; the pending buffer and the rows too short as well
 
 abbrev pub adts : List ℕ
 adts = 0xFF ∷ 0xF1 ∷ 0x50 ∷ 0x80 ∷ 0x00 ∷ 0xE0 ∷ 0x00 ∷ []
+
+abbrev short : List Event
+short =
+    event adts (At (pos 8)) (replicate 8189 4) (replicate 90 0) (replicate 80 (pos 9))
+    ∷ event adts (At (pos 9)) (replicate 8190 4) (replicate 90 0) (replicate 7 (pos 9))
+    ∷ []
 
 whole-adts : Whole (needOf AacAdts) (headOf AacAdts) adts
 unfolding needOf headOf adtsHead adtsJudged adtsHeaderLength refuseIf number
@@ -131,7 +136,7 @@ whole-adts =
       long = lit≤ tt;
     }
 
-pub given-adts : Given3 2 AacAdts 1024 44100 (adts ∷ adts ∷ adts ∷ []) (pushes adts 3 6)
+pub given-adts : Given3 2 AacAdts 1024 44100 (adts ∷ adts ∷ adts ∷ []) (pushes short adts 3 6)
 unfolding needOf headOf syntaxOf adtsHead adtsJudged adtsHeaderLength refuseIf number far farPts badAnchor badTiming manySince manyFrames forgotten give keep keepTail emptied badState badCount tightOf refusalOf push tailAt limit
 given-adts =
     record {
@@ -145,9 +150,9 @@ given-adts =
       carried = (refl, (refl, (refl, (refl, tt))));
     }
 
-pub meets-adts : Meets3 2 AacAdts (adts ∷ adts ∷ adts ∷ []) (pushes adts 3 6)
-meets-adts = demand3 2 AacAdts 1024 44100 (adts ∷ adts ∷ adts ∷ []) (pushes adts 3 6) given-adts
+pub meets-adts : Meets3 2 AacAdts (adts ∷ adts ∷ adts ∷ []) (pushes short adts 3 6)
+meets-adts = demand3 2 AacAdts 1024 44100 (adts ∷ adts ∷ adts ∷ []) (pushes short adts 3 6) given-adts
 
-pub stamps-adts : map (λ (f : Frame). f .stamp) (stamped (headOf AacAdts) (adts ∷ adts ∷ adts ∷ []) (pushes adts 3 6)) ≡ At (pos 1000) ∷ At (pos 3089) ∷ At (pos 4000) ∷ []
+pub stamps-adts : map (λ (f : Frame). f .stamp) (stamped (headOf AacAdts) (adts ∷ adts ∷ adts ∷ []) (pushes short adts 3 6)) ≡ At (pos 1000) ∷ At (pos 3089) ∷ At (pos 4000) ∷ []
 unfolding headOf adtsHead adtsJudged adtsHeaderLength refuseIf number far farPts tightOf tailAt limit
 stamps-adts = refl
