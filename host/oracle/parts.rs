@@ -1,4 +1,4 @@
-// host/build appends this to a copy of audio_frame.rs, whose own text stays as it is. The splitter's
+// `build.rs` puts this behind a copy of audio_frame.rs, whose own text stays as it is. The splitter's
 // fields are private there; here they are given and set.
 
 /// All fields of a splitter; of the anchor its timestamp, frames since, samples and rate.

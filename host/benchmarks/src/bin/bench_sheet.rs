@@ -1,0 +1,227 @@
+//! The program `cutsheet` beside the Rust's, from start to end: megabytes a second over the same
+//! long streams, and the most memory that each has. Their sheets must be the same.
+
+use benchmarks::{streams, Stream};
+use common::asking::verdict;
+use sheet::cases::F;
+use std::error::Error;
+use std::fs::{self, File};
+use std::io::{self, Write};
+use std::process::{Command, ExitCode, Stdio};
+use std::thread;
+use std::time::{Duration, Instant};
+
+const USAGE: &str = "usage: bench_sheet [PROGRAM [ARG..]]
+  PROGRAM   the program to measure beside the Rust; without it the Rust alone";
+
+/// Runs of which the median counts.
+const ROUNDS: usize = 5;
+
+/// Where the streams and the sheets go.
+const INPUT: &str = "target/host/sheet-bench.bin";
+const SHEET: &str = "target/host/sheet-bench.txt";
+const OTHER_SHEET: &str = "target/host/sheet-bench-other.txt";
+
+/// A program, and the name of its column.
+struct Program {
+    name: &'static str,
+    command: Vec<String>,
+}
+
+/// A long input: the line with the code, then `first` once, then `part` so many times.
+struct Work {
+    name: &'static str,
+    code: u32,
+    first: Vec<u8>,
+    part: Vec<u8>,
+    times: usize,
+}
+
+/// Where a program reads from.
+#[derive(Clone, Copy)]
+enum Source {
+    File,
+    Pipe,
+}
+
+fn main() -> ExitCode {
+    let ours: Vec<String> = std::env::args().skip(1).collect();
+    if ours.first().is_some_and(|flag| flag.starts_with('-')) {
+        eprintln!("{USAGE}");
+        return ExitCode::from(2);
+    }
+    verdict(tables(ours))
+}
+
+fn tables(ours: Vec<String>) -> Result<(), Box<dyn Error>> {
+    let programs = programs(ours)?;
+    speeds(&programs)?;
+    memory(&programs)?;
+    for file in [INPUT, SHEET, OTHER_SHEET] {
+        fs::remove_file(file)?;
+    }
+    Ok(())
+}
+
+/// Ours, if it was named, and the Rust, which stands beside this program.
+fn programs(ours: Vec<String>) -> io::Result<Vec<Program>> {
+    let rust =
+        std::env::current_exe()?.with_file_name("sheet_model").to_string_lossy().into_owned();
+    let mut programs = vec![
+        Program { name: "ours", command: ours },
+        Program { name: "Rust", command: vec![rust.clone()] },
+        Program { name: "Rust, digits", command: vec![rust, "--digits".into()] },
+    ];
+    programs.retain(|program| !program.command.is_empty());
+    Ok(programs)
+}
+
+/// The streams: 200 MB each, and 20 MB of the shortest frames, which make nine times as much text.
+fn works() -> Vec<Work> {
+    let repeated = |Stream { name, code, bytes }: Stream| Work {
+        name,
+        code,
+        first: Vec::new(),
+        times: 200_000_000 / bytes.len(),
+        part: bytes,
+    };
+    let names = ["AC-3, 1536", "MP2, 576", "MP3, 417 and 418", "ADTS, 250 to 499", "no head, ADTS"];
+    let is_named = |stream: &Stream| names.contains(&stream.name);
+    let mut works: Vec<Work> = streams().into_iter().filter(is_named).map(repeated).collect();
+    if let Some(no_head) = works.last_mut() {
+        no_head.first = whole_payload();
+    }
+    let part = F.repeat(10_000);
+    works.push(Work { name: "ADTS, 7", code: 2, first: Vec::new(), times: 285, part });
+    works
+}
+
+/// An ADTS frame as long as a payload, so that the splitter is locked whatever follows.
+fn whole_payload() -> Vec<u8> {
+    let mut frame = vec![0xFF, 0xF1, 0x50, 0x82, 0x00, 0x00, 0x00];
+    frame.resize(4_096, 0x00);
+    frame
+}
+
+impl Work {
+    fn len(&self) -> usize {
+        self.first.len() + self.part.len() * self.times
+    }
+
+    fn write(&self, mut to: impl Write) -> io::Result<()> {
+        writeln!(to, "{}", self.code)?;
+        to.write_all(&self.first)?;
+        (0..self.times).try_for_each(|_| to.write_all(&self.part))
+    }
+}
+
+fn speeds(programs: &[Program]) -> Result<(), Box<dyn Error>> {
+    println!("MB/s, medians of {ROUNDS}, to a file once; ratios: the first column by each other");
+    print!("{:<18}{:>4}  {:<10}", "stream", "MB", "from, to");
+    programs.iter().for_each(|program| print!("{:>14}", program.name));
+    println!("   ratios");
+    for work in works() {
+        work.write(File::create(INPUT)?)?;
+        row(&work, "file, null", &medians(programs, &work, Source::File)?);
+        row(&work, "pipe, null", &medians(programs, &work, Source::Pipe)?);
+        row(&work, "file, file", &to_files(programs, &work)?);
+    }
+    Ok(())
+}
+
+fn row(work: &Work, name: &str, times: &[Duration]) {
+    let bytes = work.len() as f64;
+    print!("{:<18}{:>4.0}  {name:<10}", work.name, bytes / 1e6);
+    times.iter().for_each(|time| print!("{:>14.0}", bytes / time.as_secs_f64() / 1e6));
+    print!("  ");
+    let ratios = times[1..].iter().map(|time| time.as_secs_f64() / times[0].as_secs_f64());
+    ratios.for_each(|ratio| print!("{ratio:>7.2}"));
+    println!();
+}
+
+/// Of each program, the output thrown away.
+fn medians(programs: &[Program], work: &Work, source: Source) -> io::Result<Vec<Duration>> {
+    let mut times = vec![Vec::new(); programs.len()];
+    for _ in 0..ROUNDS {
+        // In turn, so that a change of the processor's clock or load meets all.
+        for (program, times) in programs.iter().zip(&mut times) {
+            times.push(time(program, work, source, Stdio::null())?);
+        }
+    }
+    times.iter_mut().for_each(|times| times.sort());
+    Ok(times.iter().map(|times| times[ROUNDS / 2]).collect())
+}
+
+/// Of each program once, the output to a file. All files must be the same.
+fn to_files(programs: &[Program], work: &Work) -> Result<Vec<Duration>, Box<dyn Error>> {
+    let mut times = Vec::new();
+    for (n, program) in programs.iter().enumerate() {
+        let file = if n == 0 { SHEET } else { OTHER_SHEET };
+        times.push(time(program, work, Source::File, File::create(file)?.into())?);
+        if n > 0 && fs::read(SHEET)? != fs::read(OTHER_SHEET)? {
+            return Err(format!("{}: {SHEET} is not {OTHER_SHEET}", work.name).into());
+        }
+    }
+    Ok(times)
+}
+
+/// From before the program starts until it has ended.
+fn time(program: &Program, work: &Work, source: Source, output: Stdio) -> io::Result<Duration> {
+    let start = Instant::now();
+    let mut command = Command::new(&program.command[0]);
+    command.args(&program.command[1..]).stdout(output);
+    match source {
+        Source::File => command.stdin(File::open(INPUT)?),
+        Source::Pipe => command.stdin(Stdio::piped()),
+    };
+    let mut child = command.spawn()?;
+    if let Some(pipe) = child.stdin.take() {
+        work.write(pipe)?;
+    }
+    let status = child.wait()?;
+    match status.success() {
+        true => Ok(start.elapsed()),
+        false => Err(io::Error::other(format!("{} ends with {status}", program.name))),
+    }
+}
+
+/// The most memory of each program, for a short and for a long stream.
+fn memory(programs: &[Program]) -> io::Result<()> {
+    println!("most memory, kB");
+    for mut work in works().into_iter().filter(|work| work.name.starts_with("ADTS, 250")) {
+        for times in [2, 200] {
+            work.times = times;
+            print!("{:<18}{:>4.0}  {:<10}", work.name, work.len() as f64 / 1e6, "pipe, null");
+            for program in programs {
+                print!("{:>14}", most_memory(program, &work)?);
+            }
+            println!();
+        }
+    }
+    Ok(())
+}
+
+/// In kB, as the system keeps it. It is asked while the program waits for more of a pipe that is
+/// not closed yet, and then until it has ended.
+fn most_memory(program: &Program, work: &Work) -> io::Result<u64> {
+    let mut command = Command::new(&program.command[0]);
+    command.args(&program.command[1..]).stdin(Stdio::piped()).stdout(Stdio::null());
+    let mut child = command.spawn()?;
+    let mut pipe = child.stdin.take().expect("a pipe");
+    work.write(&mut pipe)?;
+    thread::sleep(Duration::from_millis(100));
+    let mut most = memory_so_far(child.id());
+    drop(pipe);
+    while child.try_wait()?.is_none() {
+        most = most.max(memory_so_far(child.id()));
+    }
+    Ok(most)
+}
+
+/// 0 where the process has ended.
+fn memory_so_far(process: u32) -> u64 {
+    let status = fs::read_to_string(format!("/proc/{process}/status")).unwrap_or_default();
+    let line = status.lines().find_map(|line| line.strip_prefix("VmHWM:"));
+    let number = line.and_then(|line| line.trim().strip_suffix(" kB")?.parse().ok());
+    number.unwrap_or(0)
+}

@@ -1,0 +1,266 @@
+//! Writes the stored list: heads, skips and durations, one a line, and beside it the answers that
+//! they must get. A Rattle program replays it where no Rust is at hand.
+//!
+//!   list INPUTS ANSWERS
+//!
+//! An input is `CODE HEX..`, `s CODE HEX..` or `d SAMPLES RATE`. Its answer is the six numbers of the
+//! head, the place, the duration, or `refused NUMBER`.
+
+use common::random::Random;
+use common::samples::{self, Ac3, Adts, Bytes, Eac3, Mpeg, KINDS};
+use heads::cases;
+use heads::line::Line::{self, Duration, Head, Skip};
+use heads::line::MOST_BYTES;
+use std::process::ExitCode;
+
+fn main() -> ExitCode {
+    let arguments: Vec<String> = std::env::args().skip(1).collect();
+    let [inputs, answers] = arguments.as_slice() else {
+        eprintln!("usage: list INPUTS ANSWERS");
+        return ExitCode::from(2);
+    };
+    let lines = all_lines();
+    let written = std::fs::write(inputs, text(&lines, Line::text))
+        .and_then(|()| std::fs::write(answers, text(&lines, answer)));
+    match written {
+        Ok(()) => ExitCode::SUCCESS,
+        Err(error) => {
+            eprintln!("list: {error}");
+            ExitCode::FAILURE
+        }
+    }
+}
+
+/// All lines in that form, each closed by a line feed.
+fn text(lines: &[Line], form: fn(&Line) -> Vec<u8>) -> Vec<u8> {
+    lines.iter().flat_map(|line| [form(line), b"\n".to_vec()].concat()).collect()
+}
+
+fn answer(line: &Line) -> Vec<u8> {
+    match line.answer() {
+        Ok(answer) => answer.into_bytes(),
+        Err(contradiction) => {
+            panic!("{}: {contradiction}", String::from_utf8_lossy(&line.text()))
+        }
+    }
+}
+
+fn all_lines() -> Vec<Line> {
+    let case = |case: &cases::Case| Head(case.code, case.head.to_vec());
+    let mut lines: Vec<Line> = cases::CORNERS.iter().map(case).collect();
+    lines.extend(cases::DURATIONS.iter().map(|case| Duration(case.samples, case.rate)));
+    lines.extend(cases::NUMBERS.iter().map(case));
+    lines.extend(ac3_heads());
+    lines.extend(eac3_heads());
+    lines.extend(bsid_heads());
+    lines.extend(mpeg_heads());
+    lines.extend(reserved_mpeg_heads());
+    lines.extend(adts_heads());
+    lines.extend(short_adts_heads());
+    lines.extend(cut_heads());
+    lines.extend(damaged_heads());
+    lines.extend(DURATIONS.map(|(samples, rate)| Duration(samples, rate)));
+    lines.extend(small_skips());
+    lines.extend(skips_to_a_sync_word());
+    lines.extend(skips_to_the_last_byte());
+    lines
+}
+
+/// The first `len` bytes of a head by code.
+fn head(code: u32, bytes: Bytes, len: usize) -> Line {
+    Head(code, bytes[..len].to_vec())
+}
+
+/// What stands in the bits that a head's fields leave free: all 0 or all 1, in turn.
+fn rest(n: u64) -> Bytes {
+    [if n & 1 == 0 { 0x00 } else { 0xFF }; 16]
+}
+
+/// Each frmsizecod with each fscod, and reserved ones. acmod and lfeon go through all their pairs.
+fn ac3_heads() -> Vec<Line> {
+    let mut lines = Vec::new();
+    for fscod in 0..4 {
+        let last = if fscod == 3 { 0 } else { 39 };
+        for frmsizecod in (0..=last).chain([63]) {
+            let (acmod, lfeon) = (frmsizecod % 8, frmsizecod / 8 % 2);
+            let fields = Ac3 { fscod, frmsizecod, bsid: 8, acmod, lfeon };
+            lines.push(head(0, fields.head(rest(fscod + frmsizecod)), 7));
+        }
+    }
+    lines
+}
+
+/// Each fscod with each fscod2 or numblkscod, twice. acmod and lfeon go through all their pairs,
+/// and frmsiz from its least to its greatest.
+fn eac3_heads() -> Vec<Line> {
+    let one = |n: u64| {
+        let fields = Eac3 {
+            frmsiz: 2047 * n / 31,
+            fscod: n / 4 % 4,
+            code2: n % 4,
+            acmod: (n + n / 16) % 8,
+            lfeon: n / 8 % 2,
+            bsid: 16 - n % 6,
+        };
+        head(0, fields.head(rest(n)), 6)
+    };
+    (0..32).map(one).collect()
+}
+
+/// Each bsid: AC-3, neither, E-AC-3, neither.
+fn bsid_heads() -> Vec<Line> {
+    let fields = |bsid| Ac3 { fscod: 1, frmsizecod: 8, bsid, acmod: 7, lfeon: 1 };
+    (0..32).map(|bsid| head(0, fields(bsid).head(rest(bsid)), 8)).collect()
+}
+
+/// Each bit rate index with each ID and layer; each rate code, padding and mode beside them.
+fn mpeg_heads() -> Vec<Line> {
+    let mut lines = Vec::new();
+    for n in 0..96 {
+        let (bit_rate_index, id, layer_code) = (n % 16, n / 16 % 2, n / 32 + 1);
+        let (rate_code, padding, mode) = (n % 3, n / 2 % 2, n % 4);
+        let fields = Mpeg { id, layer_code, bit_rate_index, rate_code, padding, mode };
+        lines.push(head(1, fields.head(rest(n)), 4));
+    }
+    lines
+}
+
+/// Layer code 0 and rate code 3, alone and beside a bit rate index that is refused too.
+fn reserved_mpeg_heads() -> Vec<Line> {
+    let codes = [(0, 7, 0), (0, 15, 3), (1, 15, 3), (2, 0, 3), (1, 7, 3), (2, 7, 3), (3, 7, 3)];
+    let mut lines = Vec::new();
+    for (layer_code, bit_rate_index, rate_code) in codes {
+        for id in [0, 1] {
+            let (padding, mode) = (id, 0);
+            let fields = Mpeg { id, layer_code, bit_rate_index, rate_code, padding, mode };
+            lines.push(head(1, fields.head(rest(id)), 4));
+        }
+    }
+    lines
+}
+
+/// Each rate code and each channel configuration, with and without CRC, one to four blocks.
+fn adts_heads() -> Vec<Line> {
+    let mut lines = Vec::new();
+    for n in 0..32 {
+        let fields = Adts {
+            layer: 0,
+            protection_absent: n / 16,
+            rate_code: n % 16,
+            channel_configuration: n % 8,
+            frame_length: 9 + 8182 * n / 31,
+            further_blocks: n / 4 % 4,
+        };
+        lines.push(head(2, fields.head(rest(n)), 7));
+    }
+    lines
+}
+
+/// Frame lengths about the two least ones, with and without CRC, and layers that are not 0.
+fn short_adts_heads() -> Vec<Line> {
+    let lengths = [(0, 0), (0, 6), (0, 7), (0, 8), (0, 9), (0, 10), (1, 9), (2, 9), (3, 6)];
+    let mut lines = Vec::new();
+    for (layer, frame_length) in lengths {
+        for protection_absent in [0, 1] {
+            let (rate_code, channel_configuration, further_blocks) = (4, 2, 0);
+            let fields = Adts {
+                layer,
+                protection_absent,
+                rate_code,
+                channel_configuration,
+                frame_length,
+                further_blocks,
+            };
+            lines.push(head(2, fields.head(rest(frame_length)), 7));
+        }
+    }
+    lines
+}
+
+/// A head of each kind, cut at every length up to 8, and whole with the bytes behind it.
+fn cut_heads() -> Vec<Line> {
+    let mut random = Random::new(1);
+    let mut lines = Vec::new();
+    for kind in KINDS {
+        let bytes = samples::good(kind, &mut random);
+        lines.extend((0..=8).chain([16]).map(|len| head(samples::code_of(kind), bytes, len)));
+    }
+    lines
+}
+
+/// Heads that read before one or two of their bits or bytes were changed.
+fn damaged_heads() -> Vec<Line> {
+    let mut random = Random::new(2);
+    let one = |n: usize| {
+        let kind = KINDS[n % KINDS.len()];
+        head(samples::code_of(kind), samples::damaged(kind, &mut random), 8 + n % 9)
+    };
+    (0..42).map(one).collect()
+}
+
+/// Samples and rates of frames, then no rate, and numbers at the ends of their range. 47721
+/// samples at 1 Hz are the most whose duration fits 32 bits.
+#[rustfmt::skip]
+const DURATIONS: [(u32, u32); 34] = [
+    (1536, 48_000), (1536, 44_100), (1536, 32_000), (256, 48_000), (512, 44_100), (768, 32_000),
+    (1536, 24_000), (1536, 22_050), (1536, 16_000), (384, 48_000), (1152, 44_100), (576, 22_050),
+    (1024, 96_000), (1024, 88_200), (1024, 64_000), (1024, 44_100), (2048, 12_000), (3072, 11_025),
+    (4096, 8_000), (0, 0), (0, 1), (1, 0), (1, 1), (1, 2), (1, u32::MAX), (65_535, 1), (47_721, 1),
+    (47_722, 1), (u32::MAX, 0), (u32::MAX, 1), (u32::MAX, 2), (u32::MAX, 1 << 31),
+    (u32::MAX, u32::MAX), (1 << 31, u32::MAX),
+];
+
+/// An unknown code, few bytes, runs, and sync words of the other syntaxes.
+#[rustfmt::skip]
+fn small_skips() -> Vec<Line> {
+    let skips: [(u32, &[u8]); 25] = [
+        (3, &[]), (3, &[0xFF, 0xF1]), (u32::MAX, &[0x0B, 0x77]),
+        (0, &[]), (1, &[]), (2, &[]),
+        (0, &[0x0B]), (0, &[0x77]), (1, &[0xFF]), (2, &[0xFF]),
+        (0, &[0x0B, 0x76]), (0, &[0x0B, 0x78]), (0, &[0x0A, 0x77]), (0, &[0x77, 0x0B]),
+        (0, &[0x0B, 0x0B, 0x77]), (0, &[0xFF, 0xF1, 0x50, 0x80]),
+        (1, &[0xFE, 0xFF]), (2, &[0xFF, 0xEF, 0xFF, 0xF0]), (1, &[0x0B, 0x77, 0x00]),
+        (0, &[0xFF; MOST_BYTES]), (1, &[0xFF; MOST_BYTES]), (2, &[0xFF; 2]),
+        (0, &[0x0B; MOST_BYTES]), (1, &[0x00; MOST_BYTES]), (2, &[0xF0; MOST_BYTES]),
+    ];
+    skips.map(|(code, bytes)| Skip(code, bytes.to_vec())).into()
+}
+
+/// A sync word at each of many places, about the ends of blocks of 32 above all. It ends the line, or
+/// as many bytes as a line may give stand behind it, further sync words among them.
+fn skips_to_a_sync_word() -> Vec<Line> {
+    let places = [0, 1, 2, 15, 30, 31, 32, 33, 34, 62, 63, 64, 65, 95, 96, 97, 125, 126];
+    let mut lines = Vec::new();
+    for (n, place) in places.into_iter().enumerate() {
+        for (turn, len) in [(n, place + 2), (n + 1, MOST_BYTES)] {
+            let code = turn as u32 % 3;
+            let mut bytes = without_sync_word(code, place);
+            let sync_word = if code == 0 { [0x0B, 0x77] } else { [0xFF, 0xF0 + (n % 16) as u8] };
+            bytes.extend(sync_word.iter().cycle().take(len - place));
+            lines.push(Skip(code, bytes));
+        }
+    }
+    lines
+}
+
+/// No sync word, but the first half of one at the end.
+fn skips_to_the_last_byte() -> Vec<Line> {
+    let one = |(n, len): (usize, usize)| {
+        let code = n as u32 % 3;
+        let mut bytes = without_sync_word(code, len - 1);
+        bytes.push(if code == 0 { 0x0B } else { 0xFF });
+        Skip(code, bytes)
+    };
+    [2, 31, 32, 33, 34, 64, 65, 66, 97, 127, 128, 128].into_iter().enumerate().map(one).collect()
+}
+
+/// Bytes that have halves of sync words and whole ones of the other syntaxes, and none of `code`;
+/// nor do they with the first byte of one behind them.
+fn without_sync_word(code: u32, len: usize) -> Vec<u8> {
+    // From the last byte backwards.
+    let cycle = match code {
+        0 => [0x0B, 0xF0, 0xFF, 0x77, 0x78],
+        _ => [0xEF, 0xFF, 0x77, 0x0B, 0xF0],
+    };
+    (0..len).rev().map(|k| cycle[k % cycle.len()]).collect()
+}

@@ -1,0 +1,116 @@
+//! Lines that ask for nothing, each wrong in one way. The way alone tells that they are malformed:
+//! nothing here parses a line.
+
+use common::random::Random;
+use heads::line::{Line, MOST_BYTES};
+
+type Way = fn(&mut Random) -> Vec<u8>;
+
+/// The ways by name.
+pub const WAYS: [(&str, Way); 16] = [
+    ("empty", |_| Vec::new()),
+    ("any bytes", any_bytes),
+    ("other letter", |random| [&[random.pick(b"DSabefrtxz")], &b" 2 77"[..]].concat()),
+    ("letters alone", |random| random.pick(&["d", "s", "d ", "s ", "ds", "s s"]).into()),
+    ("no space after the letter", no_space_after_the_letter),
+    ("space before", |random| [b" ", &well_formed(random)[..]].concat()),
+    ("space behind", |random| [&well_formed(random)[..], b" "].concat()),
+    ("carriage return", |random| [&well_formed(random)[..], b"\r"].concat()),
+    ("no number", no_number),
+    ("number over 32 bits", number_over_32_bits),
+    ("number of eleven digits", |random| with_number(&format!("{:011}", random.below(4)), random)),
+    ("one number or three", |random| random.pick(&["d 8", "d 8 ", "d 7 8 9", "d 7 8 9 10"]).into()),
+    ("other separator", |random| with_one_changed(0, b"\t,-_:x\0\xA0", random)),
+    ("no hexadecimal digit", no_hexadecimal_digit),
+    ("half a byte", half_a_byte),
+    ("too many bytes", too_many_bytes),
+];
+
+/// A malformed line; each way comes as often as the others.
+pub fn line(random: &mut Random) -> Line {
+    let (name, way) = random.pick(&WAYS);
+    Line::Malformed(name, way(random))
+}
+
+/// A head or a skip with so many bytes.
+fn coded(count: usize, random: &mut Random) -> Vec<u8> {
+    let code = random.below(4) as u32;
+    let bytes = (0..count).map(|_| random.word() as u8).collect();
+    let line = if random.below(2) == 0 { Line::Head(code, bytes) } else { Line::Skip(code, bytes) };
+    line.text()
+}
+
+/// A duration, or a head or a skip with at least one byte.
+fn well_formed(random: &mut Random) -> Vec<u8> {
+    match random.below(4) {
+        0 => Line::Duration(random.word() as u32, random.word() as u32).text(),
+        _ => coded(1 + random.below(40) as usize, random),
+    }
+}
+
+/// Bytes of which the first begins no line.
+fn any_bytes(random: &mut Random) -> Vec<u8> {
+    let mut text = vec![random.pick(b" !/:?@ADFSZ`aceftz\0\r\x7F\x80\xFF")];
+    let more = (0..random.below(700)).map(|_| random.word() as u8);
+    text.extend(more.filter(|&byte| byte != b'\n'));
+    text
+}
+
+fn no_space_after_the_letter(random: &mut Random) -> Vec<u8> {
+    let number = random.word() as u32;
+    let lines = [Line::Skip(number, vec![0x0B, 0x77]), Line::Duration(number, 48_000)];
+    let mut text = lines[random.below(2) as usize].text();
+    text.remove(1);
+    text
+}
+
+fn no_number(random: &mut Random) -> Vec<u8> {
+    let number = random.pick(&["", "-1", "+1", "F", "1F", "0x1", "1.0", " 1"]);
+    with_number(number, random)
+}
+
+/// Ten digits: the least such number, or any.
+fn number_over_32_bits(random: &mut Random) -> Vec<u8> {
+    let more = random.pick(&[1, 5_000_000_000]);
+    let number = (1 << 32) + random.below(more);
+    with_number(&number.to_string(), random)
+}
+
+/// A line of any kind with `number` in the place of one of its numbers.
+fn with_number(number: &str, random: &mut Random) -> Vec<u8> {
+    let line = random.pick(&["# 0B 77", "s # FF F1 50", "d # 48000", "d 1024 #"]);
+    line.replace('#', number).into()
+}
+
+fn no_hexadecimal_digit(random: &mut Random) -> Vec<u8> {
+    let digit = random.pick(&[1, 2]);
+    with_one_changed(digit, b"gG/:@` \0\xFF", random)
+}
+
+/// A head or a skip with another character at `offset` into one of its bytes.
+fn with_one_changed(offset: usize, others: &[u8], random: &mut Random) -> Vec<u8> {
+    let (mut text, byte) = with_a_byte(random);
+    text[byte + offset] = random.pick(others);
+    text
+}
+
+/// A head or a skip in which one byte has one digit.
+fn half_a_byte(random: &mut Random) -> Vec<u8> {
+    let (mut text, byte) = with_a_byte(random);
+    text.remove(byte + 1);
+    text
+}
+
+/// A head or a skip, and the place where one of its bytes begins: a space and two digits.
+fn with_a_byte(random: &mut Random) -> (Vec<u8>, usize) {
+    let count = 1 + random.below(40);
+    let text = coded(count as usize, random);
+    let byte = text.len() - 3 * (1 + random.below(count) as usize);
+    (text, byte)
+}
+
+/// One byte too many, or so many that the program keeps only a part of the line.
+fn too_many_bytes(random: &mut Random) -> Vec<u8> {
+    let more = random.pick(&[1, 200]);
+    coded(MOST_BYTES + 1 + random.below(more) as usize, random)
+}

@@ -1,0 +1,51 @@
+//! How many lines of each kind were compared.
+
+use crate::malformed::WAYS;
+use common::counts::{group, Counts};
+use heads::line::Line;
+
+/// The kinds of lines but for the malformed ones: groups, and what is told apart in each.
+const GROUPS: [(&str, &[&str]); 6] = [
+    ("heads read, kind", &["1", "2", "3", "4", "5", "6"]),
+    ("heads refused, number", &["1", "2", "3", "4", "5", "6", "7"]),
+    ("skips to a sync word, code", &["0", "1", "2"]),
+    ("skips to the last byte, code", &["0", "1", "2"]),
+    ("skips refused, number", &["7"]),
+    ("durations", &["at a rate", "at no rate"]),
+];
+
+const MALFORMED: &str = "malformed";
+
+/// No line yet.
+pub fn none() -> Counts {
+    let malformed = group(MALFORMED, &WAYS.map(|(name, _)| name));
+    Counts::new(
+        GROUPS.map(|(name, names)| group(name, names)).into_iter().chain([malformed]).collect(),
+    )
+}
+
+/// Counts a line that got the answer that it had to get.
+pub fn count(counts: &mut Counts, line: &Line, answer: &str) {
+    let (group, name) = kind(line, answer);
+    counts.add(group, name, 1);
+}
+
+/// The group of a line, and its name there.
+fn kind(line: &Line, answer: &str) -> (&'static str, String) {
+    match (line, answer.strip_prefix("refused ")) {
+        (Line::Head(..), None) => ("heads read, kind", answer[..1].into()),
+        (Line::Head(..), Some(number)) => ("heads refused, number", number.into()),
+        (Line::Skip(..), Some(number)) => ("skips refused, number", number.into()),
+        (Line::Skip(code, bytes), None) if answer == last_place(bytes) => {
+            ("skips to the last byte, code", code.to_string())
+        }
+        (Line::Skip(code, _), None) => ("skips to a sync word, code", code.to_string()),
+        (Line::Duration(_, 0), _) => ("durations", "at no rate".into()),
+        (Line::Duration(..), _) => ("durations", "at a rate".into()),
+        (Line::Malformed(way, _), _) => (MALFORMED, way.to_string()),
+    }
+}
+
+fn last_place(bytes: &[u8]) -> String {
+    bytes.len().saturating_sub(1).to_string()
+}

@@ -1,0 +1,8 @@
+//! The library under test, and the answers that it and the program `head` must give.
+
+pub mod cases;
+pub mod library;
+pub mod line;
+pub mod numbers;
+pub mod reference;
+pub mod skip;

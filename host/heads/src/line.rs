@@ -1,0 +1,61 @@
+//! The lines that the program `head` is asked, and the answers that it must give.
+
+use crate::reference;
+use oracle::answers;
+
+/// The most bytes that a line may give.
+pub const MOST_BYTES: usize = 128;
+
+pub enum Line {
+    /// What the head says: a syntax code and the head's bytes.
+    Head(u32, Vec<u8>),
+    /// Where a head can begin: a syntax code and the bytes to search.
+    Skip(u32, Vec<u8>),
+    /// The ticks of so many samples at that rate.
+    Duration(u32, u32),
+    /// A line that is none of these: what is wrong with it, and its text.
+    Malformed(&'static str, Vec<u8>),
+}
+
+impl Line {
+    /// The line as it is asked, without its line feed.
+    pub fn text(&self) -> Vec<u8> {
+        match self {
+            Line::Head(code, bytes) => coded("", *code, bytes),
+            Line::Skip(code, bytes) => coded("s ", *code, bytes),
+            Line::Duration(samples, rate) => format!("d {samples} {rate}").into(),
+            Line::Malformed(_, text) => text.clone(),
+        }
+    }
+
+    /// The answer that it must get, without its line feed. An error says that the references
+    /// contradict each other.
+    pub fn answer(&self) -> Result<String, String> {
+        match self {
+            Line::Head(code, head) => Ok(match reference::answer(*code, head)? {
+                Ok(six) => six.map(|number| number.to_string()).join(" "),
+                Err(number) => refused(number),
+            }),
+            Line::Skip(code, bytes) => {
+                Ok(reference::place(*code, bytes)?.map_or_else(refused, |place| place.to_string()))
+            }
+            Line::Duration(samples, rate) => Ok(answers::duration_90k(*samples, *rate).to_string()),
+            Line::Malformed(..) => Ok("?".into()),
+        }
+    }
+}
+
+fn refused(number: u32) -> String {
+    format!("refused {number}")
+}
+
+/// A syntax code and bytes, a space before each byte, behind `letter`.
+fn coded(letter: &str, code: u32, bytes: &[u8]) -> Vec<u8> {
+    const DIGITS: &[u8; 16] = b"0123456789ABCDEF";
+    let mut text = format!("{letter}{code}").into_bytes();
+    for &byte in bytes {
+        let (high, low) = (DIGITS[usize::from(byte >> 4)], DIGITS[usize::from(byte & 15)]);
+        text.extend([b' ', high, low]);
+    }
+    text
+}

@@ -1,0 +1,263 @@
+# shellcheck shell=bash disable=SC2016,SC2034,SC2154
+# Sourced by host/checks/command --selftest: wrong commands. Each is a copy of the command with
+# another text, beside the right program; the named part of the check must catch it.
+
+# wrong PART NAME OLD NEW: OLD stands exactly once in the command and its parts. The check is begun.
+wrong() {
+  local file found=()
+  dir=$mutants/$2
+  copy_command "$dir"
+  for file in "$dir/cutsheet" "$dir"/commands/*; do
+    [[ $(<"$file") != *"$3"* ]] || found+=("$file")
+  done
+  [ ${#found[@]} -eq 1 ] || { echo "$2: '$3' stands in ${#found[@]} files" >&2; exit 1; }
+  replace "${found[0]}" "$3" "$4"
+  start "$dir" env PARTS="$1" LIMIT=4 "$check" "$dir/cutsheet"
+  names+=("$2")
+}
+
+copy_command() {
+  mkdir -p "$1/target/bin"
+  cp -R cutsheet commands "$1"
+  cp target/bin/cutsheet "$1/target/bin"
+}
+
+selftest() {
+  local mutants=target/selftests/command names=() name
+  # shellcheck source=/dev/null
+  . host/shared/mutants.sh
+  rm -rf "$mutants"
+  # A copy that is right must pass, or nothing follows from a wrong one that does not.
+  copy_command "$mutants/right"
+  "$check" "$mutants/right/cutsheet" || exit 1
+  wrong_ends
+  wrong_reads
+  wrong_usage
+  wrong_builds
+  wrong_verdicts
+  wrong_looks
+  wrong_tags
+  wrong_causes
+  wrong_advice
+  wait
+  for name in "${names[@]}"; do
+    dir=$mutants/$name
+    expect_difference "$name" outcome "$dir"
+  done
+  verdict
+}
+
+wrong_ends() {
+  wrong signals hangup-ends-nothing-else "trap 'end_by HUP' HUP" true
+  wrong signals interrupt-ends-nothing-else "trap 'end_by INT' INT" true
+  wrong signals termination-ends-nothing-else "trap 'end_by TERM' TERM" true
+  wrong signals only-the-reader-is-ended 'kill -KILL $cutter $reader $passer $watcher $!' 'kill -KILL $reader'
+  wrong signals only-the-program-is-ended 'kill -KILL $cutter $reader $passer $watcher $!' 'kill -KILL $cutter'
+  wrong signals tee-is-not-ended 'kill -KILL $cutter $reader $passer $watcher $!' 'kill -KILL $cutter $reader'
+  wrong signals ended-with-status-1 'kill -s "$1" $$' 'exit 1'
+  wrong unwritable closed-descriptors-stay '{ true <&0; } 2>/dev/null || exec </dev/null
+true >&2 || exec 2>/dev/null
+' ''
+  wrong names input-stays-open '  exec {feed}>&-
+' ''
+  wrong program messages-lost '[ -z "$message" ] || fail' 'true || fail'
+  wrong unwritable left-output-is-success '[ -z "$(trap -p PIPE)" ]; then exit 1' \
+    '[ -z "$(trap -p PIPE)" ]; then exit 0'
+  wrong unwritable left-output-is-reported '[ -z "$(trap -p PIPE)" ]; then exit 1' \
+    '[ -z "$(trap -p PIPE)" ]; then fail "nobody reads"'
+  wrong unwritable full-output-is-silent 'if { [ -p /dev/fd/3 ] || [ -S /dev/fd/3 ]; } &&' 'if'
+  wrong unwritable ignored-pipes-are-silent ' && [ -z "$(trap -p PIPE)" ]' ''
+  wrong unwritable tee-goes-on 'tee --output-error=exit' tee
+  wrong program status-of-the-program-lost 'the program failed with status $status' 'the program failed with status 1'
+  wrong unreadable failure-is-success '  say "$@"
+  exit 1' '  say "$@"
+  exit 0'
+}
+
+wrong_reads() {
+  wrong failing failed-read-ends-nothing '|| kill -KILL "$cutter" 2>/dev/null
+' '|| true
+'
+  wrong failing failed-read-ends-the-program-by-TERM '|| kill -KILL "$cutter" 2>/dev/null
+' '|| kill "$cutter" 2>/dev/null
+'
+  wrong failing failed-read-not-reported '[ "$status" -ne 137 ] || [ "$1" -eq 141 ] || unreadable' true
+  wrong failing first-read-not-reported 'awaited "$reader" || unreadable' 'awaited "$reader"'
+  wrong failing failed-read-without-a-reason 'cannot be read${reason:+: $reason}' 'cannot be read'
+  wrong failing reason-of-the-program '  local text line reason='"''"'
+  written "$reasons"' '  local text line reason='"''"'
+  written "$words"'
+  wrong failing words-of-the-shell '{ wait "$1"; } 2>/dev/null' '{ wait "$1"; }'
+  wrong names names-split '{ exec {stream}<"$file"; }' '{ set -- $file; exec {stream}<"$1"; }'
+  wrong unreadable directories-opened '[ ! -d "$file" ] ||' 'true ||'
+  wrong unreadable missing-files-opened '[ -e "$file" ] ||' 'true ||'
+  wrong unreadable closed-input-opened '{ exec {stream}<&0; } 2>/dev/null || fail "standard input is closed"' \
+    '{ exec {stream}<&0; } 2>/dev/null || exec {stream}</dev/null'
+  wrong unwritable closed-output-written \
+    '{ exec 3>&1; } 2>/dev/null || fail "cannot write: standard output is closed"' \
+    '{ exec 3>&1; } 2>/dev/null || exec 3>/dev/null'
+  wrong names no-line-feed-behind-the-code "printf '%s\\n' \"\$code\"; hand_on" "printf '%s' \"\$code\"; hand_on"
+  wrong streams first-bytes-lost '  printf '"'%b'"' "$first"
+' ''
+  wrong streams first-bytes-of-a-slow-pipe ' iflag=fullblock' ''
+  wrong streams rest-lost 'exec dd bs=131072 <&"$stream"' true
+}
+
+wrong_usage() {
+  wrong usage misuse-is-failure '  usage >&2
+  exit 2' '  usage >&2
+  exit 1'
+  wrong names no-code-by-name '2 | adts)' '2)'
+  wrong streams mpeg-is-0 '1 | mpeg) code=1' '1 | mpeg) code=0'
+  wrong names dashes-are-a-file '[ "${1-}" != -- ] || shift
+' ''
+  wrong names help-behind-dashes '    --) break ;;
+' ''
+  wrong usage two-files '[ $# -le 1 ] || misused "one stream at a time"' 'true'
+  wrong names no-symbolic-links '[ ! -L "$root" ] ||' 'true ||'
+  wrong tag_names no-folder-but-this 'case $root in */*) root=${root%/*} ;; *) root=. ;; esac' 'root=${root%/*}'
+  wrong help no-endings '.mp1 .mp2 .mp3 .mpa .m2a' '.mp3'
+  wrong help no-status-3 '3 the stream has' '4 the stream has'
+  wrong cues cue-behind-the-end 'print (cue < end ? frame : "no frame at " cue)' 'print frame'
+  wrong cues end-without-the-rate '$4 * 90000 / $5' '$4'
+}
+
+wrong_builds() {
+  wrong first_use build-reads-the-stream 'rt check "$program_name" </dev/null 2>&1' 'rt check "$program_name" 2>&1'
+  wrong unbuildable failed-build-goes-on 'fail "the program could not be built' 'say "the program could not be built'
+  wrong unbuildable failed-build-keeps-the-old-program 'if [ "${lines[-1]}" = 0 ] && [ -x "$program" ]' \
+    'if [ -x "$program" ]'
+  wrong unbuildable built-nothing 'if [ "${lines[-1]}" = 0 ] && [ -x "$program" ]' 'if [ "${lines[-1]}" = 0 ]'
+  wrong unbuildable all-that-rt-says 'tail -n 40 >&2' 'cat >&2'
+  wrong unbuildable without-rt 'command -v rt >/dev/null || no_rt' true
+  wrong first_use builds-each-time '[ -x "$program" ] || return 1' 'return 1'
+  wrong first_use no-line-for-a-crate 'then say "${BASH_REMATCH[1]}"; fi' 'then true; fi'
+  wrong first_use every-line-of-rt 'then say "${BASH_REMATCH[1]}"; fi' 'then true; fi; say "$line"'
+  wrong rebuilding old-program-kept '-newer "$program" -print -quit' '-false -print -quit'
+  wrong rebuilding only-its-own-crate '    todo+=(${depends[$name]})
+' ''
+  wrong rebuilding list-not-looked-at 'find "$root/crates.txt" "${sources[@]}"' 'find "${sources[@]}"'
+  wrong rebuilding folders-not-looked-at '-newer "$program" -print' '-type f -newer "$program" -print'
+  wrong rebuilding edits-looked-at '-name must-fail -prune -o' ''
+  wrong rebuilding every-crate '  while [ ${#todo[@]} -gt 0 ]; do' '  todo+=("${!depends[@]}")
+  while [ ${#todo[@]} -gt 0 ]; do'
+  wrong rebuilding built-for-ever 'touch -r "$began" "$program"' true
+  wrong rebuilding changes-during-the-build-lost 'touch -r "$began" "$program"' 'touch "$program"'
+  wrong rebuilding stamp-always-removed '    rm -f "$root/target/stamp/$program_name"
+  fi' '  fi
+  rm -f "$root/target/stamp/$program_name"'
+  wrong relinking stamp-stays '    rm -f "$root/target/stamp/$program_name"
+' ''
+  wrong relinking all-stamps-removed 'rm -f "$root/target/stamp/$program_name"' 'rm -rf "$root/target/stamp"'
+  wrong locking no-lock 'if command -v flock >/dev/null && ! flock -n "$lock"' 'if false'
+  wrong locking not-looked-at-again 'current || build' build
+}
+
+wrong_verdicts() {
+  wrong outputs no-frame-is-success '  exit 3' '  exit 0'
+  wrong corners empty-stream-not-named '[ "$total" -eq 0 ]' false
+  wrong losses first-frame-cut-off-not-named '[ "$pending" -eq "$total" ]' false
+  wrong outputs stamps-not-looked-at '    *-) no_stamp ;;
+' ''
+  wrong outputs passed-over-with-the-frames '$((total - lengths - discarded - pending))' \
+    '$((total - discarded - pending))'
+  wrong corners first-length-left-out '[[ $first_line != *- ]] || lengths=$((lengths + ${first_line:9:5}))' true
+  wrong outputs discarded-not-said '[ "$discarded" -eq 0 ] || more=' 'true || more='
+  wrong outputs lost-bytes-not-seen 'if [ "$discarded" -gt 0 ]' 'if false'
+  wrong outputs pending-not-seen 'elif [ "$pending" -gt 0 ]' 'elif false'
+  wrong losses need-of-adts 'need=(8 4 7)' 'need=(8 4 6)'
+  wrong losses need-of-ac3 'need=(8 4 7)' 'need=(7 4 7)'
+  wrong losses need-of-nothing 'need=(8 4 7)' 'need=(9 4 7)'
+  wrong tags_at_both_ends all-right-though-it-is-not '[ "$frames" -eq 1 ] && [ "$given" -eq "$count" ]' true
+  wrong tags_at_both_ends tag-costs-a-frame-though-it-does-not '[ $((discarded + pending)) -eq "$behind" ]' false
+  wrong tags_behind last-frame-not-named 'if only_last_lost; then' 'if false; then'
+}
+
+wrong_looks() {
+  wrong outputs appended-sheet-at-the-front '[ $((flags & 02000)) -eq 0 ] ||' 'true ||'
+  wrong outputs second-sheet-is-the-first 'if [ "$begin" -eq 0 ]' 'if true'
+  wrong outputs end-of-the-file '< <(tail -c "+$((place - 28))" /dev/fd/3 2>/dev/null)' '< <(tail -c 29 /dev/fd/3)'
+  wrong outputs sheet-in-a-pipe-not-seen 'then look_at_findings; else' 'then true; else'
+  wrong outputs sheet-in-a-file-not-seen 'else look_back; fi' 'else true; fi'
+  wrong outputs line-e-in-part 'else tail -c 29; fi' 'else tail -c 28; fi'
+  wrong outputs first-line-printed-twice '  printf '"'%s\\n'"' "$line"
+  if [[ $line == *- ]]; then last_and_lengths' '  printf '"'%s\\n'"' "$line" "$line"
+  if [[ $line == *- ]]; then last_and_lengths'
+  wrong outputs nowhere-not-watched '[ ! /dev/fd/3 -ef /dev/null ] || return 0' \
+    '[ ! /dev/fd/3 -ef /dev/null ] || { sheet=3; return; }'
+  wrong outputs only-the-rest-is-counted 'total=$((taken + count))' 'total=$count'
+  wrong long_tags stream-begins-with-the-file '    start=$place
+' ''
+}
+
+wrong_tags() {
+  wrong tags_before footer-not-counted '[ $((flags & 16)) -eq 0 ] || more=20' true
+  wrong tags_before eight-bits-a-byte 'size >> 1 & 127 << 7' 'size & 127 << 8'
+  wrong tags_before any-size '[ $((size & 0x80808080)) -eq 0 ] || return 1' true
+  wrong tags_before one-tag-only 'tag_at "$before" || break' '[ "$n" -eq 1 ] && tag_at "$before" || break'
+  wrong tags_before ape-without-its-head 'length=$((32 + $(little' 'length=$((0 + $(little'
+  wrong tags_before tag-not-compared-with-the-stream '[ "$before" -ge "$total" ]' false
+  wrong tags_behind no-tags-behind '  find_tags_behind
+}' '  behind=0 behind_tags='"''"'
+}'
+  wrong tags_behind enhanced-tag-not-seen 'length=355' 'length=128'
+  wrong tags_behind head-of-ape-not-counted '>> 31) * 32' '>> 31) * 0'
+  wrong tags_behind ape-of-any-size '  [ "$length" -ge 32 ]
+' ''
+  wrong tags_behind footer-and-no-head 'id3v2_length "${hex: -10}" 20' \
+    'id3v2_length "${hex: -10}" 10 && length=$((length - 10))'
+  wrong tags_behind lyrics-too-short '+ 15))' '+ 9))'
+  wrong tags_behind old-lyrics-too-short '/ 2 + 11))' '/ 2))'
+  wrong tags_at_both_ends tags-before-forgotten '  if [ "$1" -gt 0 ]; then line=' '  if false; then line='
+  wrong tags_at_both_ends end-of-a-short-pipe-not-known '[ -n "$again" ] || [ -n "$ended" ] || return 0
+  for' '[ -n "$again" ] || return 0
+  for'
+}
+
+wrong_causes() {
+  wrong wrong_codes no-other-code 'codes=("$code" $(((code + 1) % 3)) $(((code + 2) % 3)))' 'codes=("$code")'
+  wrong wrong_codes no-third-code 'codes=("$code" $(((code + 1) % 3)) $(((code + 2) % 3)))' \
+    'codes=("$code" $(((code + 1) % 3)))'
+  wrong wrong_codes long-frames-not-seen '[ "$lost" -eq 0 ] && [ "$left" -gt 0 ]' false
+  wrong junk no-search '[ "$given" -gt 4096 ] || continue' continue
+  wrong junk search-without-a-frame 'cut_part "$found" "$before" "whole_payload $found"' 'cut_part "$found" "$before"'
+  wrong junk a-short-look 'piece=65536' 'piece=40000'
+  wrong long_tags behind-a-long-tag-in-a-pipe '  elif [ -z "$hex" ]; then' '  elif false; then'
+  wrong losses no-word-of-tags-in-a-pipe '[ -z "$again" ] && [ -z "$ended" ] || return 0
+  because' 'return 0
+  because'
+  wrong losses tags-in-a-file-too '[ -z "$again" ] && [ -z "$ended" ] || return 0
+  because' 'because'
+  wrong unknown one-head-explains-all ' && explains; then' '; then'
+  wrong unknown text-not-known 'if is_text_16 || is_text' 'if is_text_16'
+  wrong unknown wide-text-is-sound 'elif ! is_text_16 && syntax_at' 'elif syntax_at'
+  wrong unknown zeros-not-known '[[ $hex =~ ^0+$ ]]' false
+  wrong unknown everything-is-text 'if is_text_16 || is_text' 'if true'
+  wrong formats mp4-by-its-first-byte '00??????66747970*' '01??????66747970*'
+  wrong formats samples-are-copied '(0100|0200|' '(0101|0200|'
+  wrong formats webm-is-copied "1a45dfa3*7765626d*) encoded 'a WebM file'" "1a45dfa3*7765626d*) container 'a WebM file'"
+  wrong other_sound packets-of-189-bytes 'for size in 188 192' 'for size in 189 192'
+  wrong other_sound packets-of-188-bytes-only 'for size in 188 192' 'for size in 188'
+  wrong other_sound packets-from-the-front-only 'at < size; at++' 'at < 5; at++'
+  wrong other_sound latm-by-its-first-byte 'is_latm "$1" && encoded' 'encoded'
+  wrong other_sound bytes-not-swapped 'dd conv=swab 2' 'dd 2'
+}
+
+wrong_advice() {
+  wrong tags_before cut-one-byte-early 'tail -c +$(($1 + 1))$from' 'tail -c +$1$from'
+  wrong tags_behind cut-one-byte-more 'head -c -$2$from' 'head -c -$(($2 + 1))$from'
+  wrong wrong_codes the-code-that-was-asked-for '$command_typed $3$from' '$command_typed $code$from'
+  wrong tag_names names-not-quoted 'printf '"'%s'"' "${1@Q}"' 'printf '"'%s'"' "$1"'
+  wrong tag_names names-with-a-dash '    -* | *:*) typed "./$file" ;;
+' ''
+  wrong tag_names command-without-its-folder '*) typed "./$0" ;;' '*) typed "$0" ;;'
+  wrong tags_before a-pipe-has-a-name 'if [ "$file" = - ] || [ -z "$again" ]; then return; fi' true
+  wrong formats mp3-with-a-frame-of-its-own '"$copy -id3v2_version 0 -write_xing 0 track.mp3' '"$copy track.mp3'
+  wrong ffmpeg_lines film-through-a-pipe '  if [ -z "$again" ]; then
+    advise' '  if false; then
+    advise'
+  wrong ffmpeg_lines aac-with-code-1 '$command_typed 2 track.aac' '$command_typed 1 track.aac'
+  wrong ffmpeg_lines mp3-with-code-2 '$command_typed 1 track.mp3' '$command_typed 2 track.mp3'
+  wrong ffmpeg_lines encoded-with-code-1 '$command_typed 0 track.ac3' '$command_typed 1 track.ac3'
+  wrong ffmpeg_lines first-stream-of-any-kind '/dev/stdin} -map 0:a:0 -c:a ac3' '/dev/stdin} -map 0:0 -c:a ac3'
+}

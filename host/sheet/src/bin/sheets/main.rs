@@ -1,0 +1,137 @@
+//! Runs a program, `cutsheet` or another in its place, on many inputs, and compares what it prints
+//! with the sheet that the Rust module's frames make, byte for byte. It stops with status 1 at the
+//! first difference, or where something that should be seen never was.
+
+mod counts;
+mod feed;
+
+use counts::Counts;
+use feed::{Feed, Printed};
+use sheet::inputs::demo;
+use sheet::inputs::input::{self, Input};
+use sheet::{cases, digits, model, text};
+use std::process::ExitCode;
+use std::time::Instant;
+use std::{fs, io};
+
+const USAGE: &str = "usage: sheets PROGRAM COUNT SEED [ARG..]
+  PROGRAM   the program to run
+  COUNT     inputs by chance; those that come in every run are made beside them
+  SEED      seed of everything random
+  ARG..     the program's arguments";
+
+/// Where the input goes whose sheet is not the expected one.
+const DIFFERENCE: &str = "target/host/sheet-difference.bin";
+
+/// The folder of stored streams.
+const DEMO: &str = "demo";
+
+/// Why a run ends early.
+enum Stop {
+    Difference(String),
+    /// A program that cannot be run, say.
+    Failed(io::Error),
+}
+
+impl From<io::Error> for Stop {
+    fn from(error: io::Error) -> Stop {
+        Stop::Failed(error)
+    }
+}
+
+fn main() -> ExitCode {
+    let arguments: Vec<String> = std::env::args().skip(1).collect();
+    let Some((command, count, seed)) = options(&arguments) else {
+        eprintln!("{USAGE}");
+        return ExitCode::from(2);
+    };
+    let start = Instant::now();
+    println!("seed {seed}");
+    match run_all(&command, count, seed) {
+        Ok(counts) => verdict(&counts, start),
+        Err(Stop::Difference(what)) => {
+            println!("difference: {what}");
+            ExitCode::FAILURE
+        }
+        Err(Stop::Failed(error)) => {
+            eprintln!("sheets: {}: {error}", command[0]);
+            ExitCode::from(2)
+        }
+    }
+}
+
+fn options(arguments: &[String]) -> Option<(Vec<String>, u64, u64)> {
+    let [program, count, seed, rest @ ..] = arguments else {
+        return None;
+    };
+    let command = [program].into_iter().chain(rest).cloned().collect();
+    Some((command, count.parse().ok()?, seed.parse().ok()?))
+}
+
+/// Prints the counts, and whether everything was seen.
+fn verdict(counts: &Counts, start: Instant) -> ExitCode {
+    let seconds = start.elapsed().as_secs_f64();
+    println!("{counts} ({seconds:.1} s): no difference");
+    match counts.unseen() {
+        unseen if unseen.is_empty() => ExitCode::SUCCESS,
+        unseen => {
+            println!("never seen: {}", unseen.join("; "));
+            ExitCode::FAILURE
+        }
+    }
+}
+
+fn run_all(command: &[String], count: u64, seed: u64) -> Result<Counts, Stop> {
+    for line in [text::line, digits::line] {
+        cases::check(line).map_err(|error| Stop::Difference(error.to_string()))?;
+    }
+    let demos = demo::streams(DEMO)?;
+    let mut counts = Counts::new(&demos);
+    for (n, input) in (1..).zip(input::all(count, seed, &demos)) {
+        let mut random = input::random(!seed, n);
+        let feed = Feed::by_chance(&mut random);
+        let printed = feed::run(command, &input.bytes, feed, random.word())?;
+        let expected = expected(&input)?;
+        if let Some(what) = difference(&printed, &expected) {
+            fs::write(DIFFERENCE, &input.bytes)?;
+            let (group, name) = input.sort;
+            let input = format!("input {n} ({group}: {name}; {})", feed.name());
+            return Err(Stop::Difference(format!("seed {seed}, {input}, {what}")));
+        }
+        counts.count(&input, feed, &expected);
+    }
+    Ok(counts)
+}
+
+/// The sheet that is spelled out, or else the model's.
+fn expected(input: &Input) -> io::Result<Vec<u8>> {
+    let mut sheet = Vec::new();
+    match input.spelled {
+        Some(spelled) => sheet.extend(spelled.as_bytes()),
+        None => model::print(&input.bytes[..], &mut sheet, text::line)?,
+    }
+    Ok(sheet)
+}
+
+/// The first line that differs, or how the program ended.
+fn difference(printed: &Printed, expected: &[u8]) -> Option<String> {
+    let Printed { text, status } = printed;
+    if text != expected {
+        let mut ours = text.split_inclusive(|byte| *byte == b'\n');
+        let mut right = expected.split_inclusive(|byte| *byte == b'\n');
+        let lines = std::iter::repeat_with(|| (ours.next(), right.next()));
+        let (n, (ours, right)) = (1..).zip(lines).find(|(_, (ours, right))| ours != right)?;
+        let (ours, right) = (shown(ours), shown(right));
+        return Some(format!("line {n}: the program prints {ours}, expected {right}"));
+    }
+    let ended = format!("the sheet is right, but the program ends with {status}");
+    (!status.success()).then_some(ended)
+}
+
+/// A line with its line feed, shortened where it is too long for any sheet.
+fn shown(line: Option<&[u8]>) -> String {
+    match line {
+        None => "nothing more".into(),
+        Some(line) => format!("'{}'", line[..line.len().min(200)].escape_ascii()),
+    }
+}

@@ -1,0 +1,9 @@
+//! Lists of calls for a splitter, made from one seed: streams and damaged streams cut into payloads,
+//! states at their bounds, short streams cut everywhere.
+
+pub mod large;
+pub mod malformed;
+pub mod sequences;
+pub mod short;
+pub mod states;
+pub mod talk;

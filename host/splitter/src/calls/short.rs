@@ -1,0 +1,138 @@
+//! Short streams cut everywhere: every string of up to three words of a small alphabet for each
+//! syntax, and document 01's streams at every pair of places with every pattern of timestamps.
+
+use super::talk::Talk;
+use crate::call::Call;
+use crate::state::{Anchor, State};
+
+/// A stream cut into three payloads, the last of which may be empty.
+pub struct Short {
+    code: u32,
+    bytes: Vec<u8>,
+    cuts: [usize; 2],
+    /// Which payloads have a timestamp: one bit for each.
+    stamped: u32,
+}
+
+/// F, then with CRC, then a false head that is longer than F, then other geometry, and loose bytes.
+const ADTS: [&[u8]; 6] = [
+    &[0xFF, 0xF1, 0x50, 0x80, 0x00, 0xE0, 0x00],
+    &[0xFF, 0xF0, 0x50, 0x80, 0x01, 0x20, 0x00, 0xFF, 0xF1],
+    &[0xFF, 0xF1, 0x50, 0x80, 0x01, 0x40, 0x00, 0xFF, 0xF1, 0x50],
+    &[0xFF, 0xF1, 0x4C, 0x80, 0x00, 0xE0, 0x01],
+    &[0xFF],
+    &[0x00],
+];
+
+/// Frames of 8 and 10 bytes that end in a sync word, heads that say 2 and 6 bytes, and loose bytes.
+const EAC3: [&[u8]; 6] = [
+    &[0x0B, 0x77, 0x00, 0x03, 0x3F, 0x80, 0x0B, 0x77],
+    &[0x0B, 0x77, 0x00, 0x04, 0x4F, 0x80, 0x00, 0x00, 0x0B, 0x77],
+    &[0x0B, 0x77, 0x00, 0x00, 0x3F, 0x80],
+    &[0x0B, 0x77, 0x00, 0x02, 0x3F, 0x80, 0x00],
+    &[0x0B],
+    &[0x00],
+];
+
+/// Frames of 24 and 26 bytes, a bit rate index of 0, and loose bytes.
+const MPEG: [&[u8]; 5] = [
+    &[0xFF, 0xF3, 0x14, 0x00, 0, 0, 0, 0, 0, 0, 0, 0, 0, 0, 0, 0, 0, 0, 0, 0, 0, 0, 0, 0xFF],
+    &[
+        0xFF, 0xF3, 0x10, 0x00, 0, 0, 0, 0, 0, 0, 0, 0, 0, 0, 0, 0, 0, 0, 0, 0, 0, 0, 0, 0xFF,
+        0xF3, 0x14,
+    ],
+    &[0xFF, 0xF3, 0x04, 0x00],
+    &[0xFF],
+    &[0x00],
+];
+
+/// A stream of two words that is longer than this is cut into two payloads only.
+const MOST_BYTES_IN_THREE: usize = 20;
+
+/// All of them.
+pub fn all() -> Vec<Short> {
+    let mut all = Vec::new();
+    for (code, bytes) in document_streams() {
+        for pattern in 0..8 {
+            three_payloads(&mut all, code, &bytes, |_| pattern);
+        }
+    }
+    for (code, words) in [(2, &ADTS[..]), (0, &EAC3[..]), (1, &MPEG[..])] {
+        for a in words {
+            for b in words {
+                two_words(&mut all, code, &[*a, *b].concat());
+                for c in words {
+                    two_payloads(&mut all, code, &[*a, *b, *c].concat());
+                }
+            }
+        }
+    }
+    all
+}
+
+fn two_words(all: &mut Vec<Short>, code: u32, bytes: &[u8]) {
+    match bytes.len() {
+        0..=MOST_BYTES_IN_THREE => three_payloads(all, code, bytes, |n| n % 8),
+        _ => two_payloads(all, code, bytes),
+    }
+}
+
+/// F F F; F and six or seven 00; F and six bytes of F; the same with a frame of E-AC-3. Then eight
+/// bytes whose head says 2: with all of them there one is lost, and the others' stamp stays.
+fn document_streams() -> Vec<(u32, Vec<u8>)> {
+    let streams = [(2, ADTS[0], 7), (0, EAC3[0], 8)].map(|(code, frame, need)| {
+        let with = |more: &[u8]| (code, [frame, more].concat());
+        let zeros = [0; 8];
+        [
+            with(&frame.repeat(2)),
+            with(&zeros[..need - 1]),
+            with(&zeros[..need]),
+            with(&frame[..need - 1]),
+        ]
+    });
+    let below_need = (0, [EAC3[2], &[0x00, 0x00]].concat());
+    streams.into_iter().flatten().chain([below_need]).collect()
+}
+
+/// The stream cut at every place, the patterns of timestamps in turn.
+fn two_payloads(all: &mut Vec<Short>, code: u32, bytes: &[u8]) {
+    for cut in 0..=bytes.len() {
+        let (bytes, cuts, stamped) = (bytes.to_vec(), [cut, bytes.len()], (cut % 4) as u32);
+        all.push(Short { code, bytes, cuts, stamped });
+    }
+}
+
+/// The stream cut at every pair of places, `pattern` giving the pattern of each from its number.
+fn three_payloads(all: &mut Vec<Short>, code: u32, bytes: &[u8], pattern: impl Fn(u32) -> u32) {
+    for first in 0..=bytes.len() {
+        for second in first..=bytes.len() {
+            let stamped = pattern((first * 5 + second) as u32);
+            all.push(Short { code, bytes: bytes.to_vec(), cuts: [first, second], stamped });
+        }
+    }
+}
+
+impl Short {
+    /// Pushes its payloads to a new splitter, or to one that is locked and has an anchor. Flushes.
+    pub fn tell(&self, locked: bool, talk: &mut Talk) {
+        let start = match locked {
+            false => Call::New(self.code),
+            true => {
+                let anchor = Anchor { pts: 500, frames: 3, samples: 1_152, rate: 44_100 };
+                let new = State::new(self.code);
+                Call::Set(State { anchor: Some(anchor), locked, ..new }, Vec::new())
+            }
+        };
+        talk.ask(start);
+        let [first, second] = self.cuts;
+        let payloads = [&self.bytes[..first], &self.bytes[first..second], &self.bytes[second..]];
+        for (n, payload) in payloads.into_iter().enumerate() {
+            let is_stamped = self.stamped >> n & 1 == 1;
+            // Without a timestamp an empty payload at the end would bring nothing new.
+            if !payload.is_empty() || is_stamped || n < 2 {
+                talk.push(is_stamped.then_some(1_000 + 8_000 * n as i64), payload);
+            }
+        }
+        talk.flush();
+    }
+}
