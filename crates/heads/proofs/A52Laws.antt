@@ -68,7 +68,9 @@ module _ (b : List ℕ) (byte : Bytes b) where
   bsid-is = omega (arith, byte 5)
 
   -- a head of six bytes and more: the sync word, then bsid
-  pub chosen : (x : Head) → 6 ≤ length b → x ≡ refuseIf (not (eqb (getD b 0 0 * 256 + getD b 1 0) ac3Syncword)) NoSyncWord (byBsid b (getD b 5 0 / 8)) → x ≡ a52Head b
+  pub chosen : (x : Head) → 6 ≤ length b
+      → x ≡ refuseIf (not (eqb (getD b 0 0 * 256 + getD b 1 0) ac3Syncword)) NoSyncWord (byBsid b (getD b 5 0 / 8))
+      → x ≡ a52Head b
   unfolding a52Head refuseIf
   chosen x p j = rw (le-ltb (length b) 6 p, syncword-is, bsid-is) j
 
@@ -94,13 +96,19 @@ module _ (b : List ℕ) (byte : Bytes b) where
   lfeon-is = omega (arith, byte 4, byte 5)
 
   -- E-AC-3 at a reduced rate, and at a full one
-  pub halved : (x : Head) → getD b 4 0 / 64 ≡ 3 → x ≡ refuseIf (eqb (getD b 4 0 / 16 % 4) 3) ReservedCode (eac3Read ((getD b 2 0 % 8 * 256 + getD b 3 0 + 1) * 2) 6 (getD eac3Rates (getD b 4 0 / 16 % 4) 0) (nfchans (getD b 4 0 / 2 % 8) + getD b 4 0 % 2)) → x ≡ eac3Judged (eac3Fields b)
+  pub halved : (x : Head) → getD b 4 0 / 64 ≡ 3
+      → x ≡ refuseIf (eqb (getD b 4 0 / 16 % 4) 3) ReservedCode
+      (eac3Read ((getD b 2 0 % 8 * 256 + getD b 3 0 + 1) * 2) 6 (getD eac3Rates (getD b 4 0 / 16 % 4) 0)
+      (nfchans (getD b 4 0 / 2 % 8) + getD b 4 0 % 2)) → x ≡ eac3Judged (eac3Fields b)
   unfolding eac3Judged eac3TailWidths fscod2Bits numblkscodBits
   halved x h j =
       let three = eq-eqb (fscodOf (number 6 b)) 3 (fscod-is ∙ h) in
       rw (three, three, frmsiz-is, code2-is, acmod-is, lfeon-is) j
 
-  pub whole : (x : Head) → (getD b 4 0 / 64 ≡ 3 → ⊥) → x ≡ eac3Read ((getD b 2 0 % 8 * 256 + getD b 3 0 + 1) * 2) (getD eac3Blocks (getD b 4 0 / 16 % 4) 0) (getD ac3Rates (getD b 4 0 / 64) 0) (nfchans (getD b 4 0 / 2 % 8) + getD b 4 0 % 2) → x ≡ eac3Judged (eac3Fields b)
+  pub whole : (x : Head) → (getD b 4 0 / 64 ≡ 3 → ⊥)
+      → x ≡ eac3Read ((getD b 2 0 % 8 * 256 + getD b 3 0 + 1) * 2) (getD eac3Blocks (getD b 4 0 / 16 % 4) 0)
+      (getD ac3Rates (getD b 4 0 / 64) 0) (nfchans (getD b 4 0 / 2 % 8) + getD b 4 0 % 2) → x ≡ eac3Judged
+      (eac3Fields b)
   unfolding eac3Judged eac3TailWidths fscod2Bits numblkscodBits
   whole x h j =
       let other = ne-eqb (fscodOf (number 6 b)) 3 (λ e. h (sym fscod-is ∙ e)) in
@@ -160,12 +168,28 @@ module _ (b : List ℕ) (byte : Bytes b) where
   pub judged : (x : Head) → x ≡ ac3Judged (length b) (ac3ByBytes b) → x ≡ ac3Judged (length b) (ac3Fields b)
   judged x j =
       let f = ac3Fields b in
-      j ∙ λ i. ac3Judged (length b) (record { syncword = f .syncword; crc1 = f .crc1; fscod = sym size-rate-is i; frmsizecod = sym size-is i; bsid = f .bsid; bsmod = f .bsmod; acmod = sym mode-is i; cmixlev = f .cmixlev; surmixlev = f .surmixlev; dsurmod = f .dsurmod; lfeon = sym lfe-is i })
+      j ∙ λ i. ac3Judged (length b) (record {
+        syncword = f .syncword;
+        crc1 = f .crc1;
+        fscod = sym size-rate-is i;
+        frmsizecod = sym size-is i;
+        bsid = f .bsid;
+        bsmod = f .bsmod;
+        acmod = sym mode-is i;
+        cmixlev = f .cmixlev;
+        surmixlev = f .surmixlev;
+        dsurmod = f .dsurmod;
+        lfeon = sym lfe-is i;
+      })
 
 -- what is reported of an AC-3 frame, from what each part was found to be
-pub reported : (fscod size acmod last mix words kbps channels : ℕ) → words ≡ ac3Words fscod size → kbps ≡ ac3Kbps size → mix ≡ mixBits acmod → channels ≡ nfchans acmod + last / 2 ^ (4 - mix) % 2 → ac3Read words (getD ac3Rates fscod 0) kbps channels ≡ ac3Read (ac3Words fscod size) (getD ac3Rates fscod 0) (ac3Kbps size) (nfchans acmod + last / 2 ^ (4 - mixBits acmod) % 2)
+pub reported : (fscod size acmod last mix words kbps channels : ℕ) → words ≡ ac3Words fscod size → kbps ≡ ac3Kbps size
+    → mix ≡ mixBits acmod → channels ≡ nfchans acmod + last / 2 ^ (4 - mix) % 2
+    → ac3Read words (getD ac3Rates fscod 0) kbps channels ≡ ac3Read (ac3Words fscod size) (getD ac3Rates fscod 0)
+    (ac3Kbps size) (nfchans acmod + last / 2 ^ (4 - mixBits acmod) % 2)
 reported fscod size acmod last mix words kbps channels w k m c = rw (c, w, k, m)
 
 -- and of an E-AC-3 frame
-pub told : (x : Head) (n blocks rate c channels : ℕ) → c ≡ channels → x ≡ eac3Read n blocks rate c → x ≡ eac3Read n blocks rate channels
+pub told : (x : Head) (n blocks rate c channels : ℕ) → c ≡ channels → x ≡ eac3Read n blocks rate c
+    → x ≡ eac3Read n blocks rate channels
 told x n blocks rate c channels e h = rw (← e) h

@@ -74,5 +74,21 @@ module _ (b : List ℕ) (byte : Bytes b) where
   judged x p j =
       let f = adtsFields b in
       let e : adtsJudged adtsRates (adtsByBytes b) ≡ adtsJudged adtsRates f =
-      λ i. adtsJudged adtsRates (record { syncword = sym syncword-is i; id = f .id; layer = sym layer-is i; «protection_absent» = sym protection-absent-is i; profile = f .profile; «sampling_frequency_index» = sym index-is i; «private_bit» = f .«private_bit»; «channel_configuration» = sym configuration-is i; «original_copy» = f .«original_copy»; home = f .home; «copyright_identification_bit» = f .«copyright_identification_bit»; «copyright_identification_start» = f .«copyright_identification_start»; «frame_length» = sym length-is i; «adts_buffer_fullness» = f .«adts_buffer_fullness»; «number_of_raw_data_blocks_in_frame» = sym blocks-is i }) in
+      λ i. adtsJudged adtsRates (record {
+        syncword = sym syncword-is i;
+        id = f .id;
+        layer = sym layer-is i;
+        «protection_absent» = sym protection-absent-is i;
+        profile = f .profile;
+        «sampling_frequency_index» = sym index-is i;
+        «private_bit» = f .«private_bit»;
+        «channel_configuration» = sym configuration-is i;
+        «original_copy» = f .«original_copy»;
+        home = f .home;
+        «copyright_identification_bit» = f .«copyright_identification_bit»;
+        «copyright_identification_start» = f .«copyright_identification_start»;
+        «frame_length» = sym length-is i;
+        «adts_buffer_fullness» = f .«adts_buffer_fullness»;
+        «number_of_raw_data_blocks_in_frame» = sym blocks-is i;
+      }) in
       rw (le-ltb (length b) 7 p) (j ∙ e)

@@ -8,9 +8,14 @@ use native.Mathlib.Nat.{le-of-suc-le-suc}
 use Rattle.heads.proofs.Entries.{least, most}
 use borrow.Author.Tests.{lt-ltb, le-ltb, eq-eqb, ne-eqb, le-leb, lt-leb}
 use Rattle.heads.specs.Judge.{refuseIf}
+use Rattle.heads.specs.Numbers.{headAnswer}
 use Rattle.heads.specs.declared.info.Head.{Head}
 use Rattle.heads.specs.declared.info.Head.the-variants.{Refused}
 use Rattle.heads.specs.declared.info.Refusal.{Refusal}
+
+-- a head that is the defined one has its number and its values
+pub answered : {x h : Head} → x ≡ h → (x ≡ h) × (headAnswer x ≡ headAnswer h)
+answered e = (e, ap headAnswer e)
 
 pub stop : (t : Bool) (n : Refusal) (rest : Head) → t ≡ true → Refused n ≡ refuseIf t n rest
 unfolding refuseIf

@@ -7,16 +7,21 @@ use lib.ListN.{length, take, drop, set}
 use lib.Pow.{field, mod-mod-pow}
 use lib.Seq.{sets-eq, take-at, drop-append-add, drop-drop}
 use borrow.Author.Tests.{lt-ltb, le-ltb}
-use Rattle.heads.specs.Numbers.{kindNumber, bitRateNumber, refusalNumber, headNumber}
-use Rattle.heads.specs.Syntax.{headOfCode}
-use Rattle.heads.specs.Host.{le32, infoBytes, hostNumber, hostBytes, headBytes}
+use Rattle.heads.specs.Numbers.{kindNumber, bitRateNumber, refusalNumber, valuesOf, inOrder}
+use Rattle.heads.specs.Syntax.{headOf, syntaxOf}
+use Rattle.heads.specs.Host.{le32, allLe32, recordSize, numberOf, bytesOf, hostNumber, hostBytes}
+use Rattle.heads.specs.declared.syntax.AudioSyntax.{AudioSyntax}
+use Rattle.heads.specs.declared.syntax.CodedSyntax.{CodedSyntax}
+use Rattle.heads.specs.declared.syntax.CodedSyntax.the-variants.{Known, Refused as NoSyntax}
 use Rattle.heads.specs.declared.info.AudioFrameInfo.{AudioFrameInfo}
 use Rattle.heads.specs.declared.info.Head.{Head}
 use Rattle.heads.specs.declared.info.Head.the-variants.{Read, Refused}
 use Rattle.heads.specs.declared.info.Refusal.{Refusal}
 
 -- four stores in a row
-pub put-four : (l : List ℕ) (i x : ℕ) → i + 4 ≤ length l → set (set (set (set l i (x % 256)) (i + 1) (x / 256 % 256)) (i + 2) (x / 65536 % 256)) (i + 3) (x / 16777216 % 256) ≡ take i l ++ le32 x ++ drop (i + 4) l
+pub put-four : (l : List ℕ) (i x : ℕ) → i + 4 ≤ length l
+    → set (set (set (set l i (x % 256)) (i + 1) (x / 256 % 256)) (i + 2) (x / 65536 % 256)) (i + 3)
+    (x / 16777216 % 256) ≡ take i l ++ le32 x ++ drop (i + 4) l
 unfolding le32
 put-four l i x h =
     let e1 : i + 1 ≡ suc i = omega arith in
@@ -25,7 +30,8 @@ put-four l i x h =
     rw (e1, e2, e3) (sets-eq (x % 256 ∷ x / 256 % 256 ∷ x / 65536 % 256 ∷ x / 16777216 % 256 ∷ []) l i h)
 
 -- a number after those that are there: done are the first n bytes, of l as it was at entry
-next : (done l now last : List ℕ) (n x : ℕ) → length done ≡ n → now ≡ done ++ drop n l → last ≡ take n now ++ le32 x ++ drop (n + 4) now → last ≡ done ++ le32 x ++ drop (n + 4) l
+next : (done l now last : List ℕ) (n x : ℕ) → length done ≡ n → now ≡ done ++ drop n l
+    → last ≡ take n now ++ le32 x ++ drop (n + 4) now → last ≡ done ++ le32 x ++ drop (n + 4) l
 next done l now last n x e h p =
     let front : take n now ≡ done = rw h (take-at done (drop n l) n e) in
     let back : drop (n + 4) now ≡ drop (n + 4) l = rw (h, ← e, drop-append-add) (drop-drop 4 (length done) l) in
@@ -42,8 +48,14 @@ low n =
     rw (e0, e1, e2, e3)
 
 -- six numbers put one after another
-pub six : (i : AudioFrameInfo) (kind rate : ℕ) (l l1 l2 l3 l4 l5 l6 : List ℕ) → kind ≡ kindNumber (i .kind) → rate ≡ bitRateNumber (i .«bit_rate») → l1 ≡ take 0 l ++ le32 kind ++ drop (0 + 4) l → l2 ≡ take 4 l1 ++ le32 (i .«frame_len» % 2 ^ 32) ++ drop (4 + 4) l1 → l3 ≡ take 8 l2 ++ le32 (i .«samples_per_frame») ++ drop (8 + 4) l2 → l4 ≡ take 12 l3 ++ le32 (i .«sample_rate») ++ drop (12 + 4) l3 → l5 ≡ take 16 l4 ++ le32 (i .channels) ++ drop (16 + 4) l4 → l6 ≡ take 20 l5 ++ le32 rate ++ drop (20 + 4) l5 → l6 ≡ infoBytes i ++ drop 24 l
-unfolding infoBytes le32
+pub six : (i : AudioFrameInfo) (kind rate : ℕ) (l l1 l2 l3 l4 l5 l6 : List ℕ) → kind ≡ kindNumber (i .kind)
+    → rate ≡ bitRateNumber (i .«bit_rate») → l1 ≡ take 0 l ++ le32 kind ++ drop (0 + 4) l
+    → l2 ≡ take 4 l1 ++ le32 (i .«frame_len» % 2 ^ 32) ++ drop (4 + 4) l1
+    → l3 ≡ take 8 l2 ++ le32 (i .«samples_per_frame») ++ drop (8 + 4) l2
+    → l4 ≡ take 12 l3 ++ le32 (i .«sample_rate») ++ drop (12 + 4) l3
+    → l5 ≡ take 16 l4 ++ le32 (i .channels) ++ drop (16 + 4) l4 → l6 ≡ take 20 l5 ++ le32 rate ++ drop (20 + 4) l5
+    → l6 ≡ allLe32 (inOrder (valuesOf i)) ++ drop 24 l
+unfolding le32
 six i kind rate l l1 l2 l3 l4 l5 l6 ek er e1 e2 e3 e4 e5 e6 =
     let a = le32 (kindNumber (i .kind)) in
     let b = a ++ le32 (i .«frame_len») in
@@ -57,45 +69,53 @@ six i kind rate l l1 l2 l3 l4 l5 l6 ek er e1 e2 e3 e4 e5 e6 =
     let p5 : l5 ≡ e ++ drop 20 l = next d l l4 l5 16 (i .channels) refl p4 e5 in
     next e l l5 l6 20 (bitRateNumber (i .«bit_rate»)) refl p5 (rw er at e6)
 
--- the order of the answers
-module _ (code : ℕ) (b out : List ℕ) where
-  pub no-syntax : 2 < code → 7 ≡ hostNumber code b (length out)
+-- the order of the answers: first the lent bytes, then the head
+module _ (s : AudioSyntax) (b out : List ℕ) where
+  pub no-room : length out < recordSize → 12 ≡ numberOf s b (length out)
+  unfolding numberOf
+  no-room q = rw (lt-ltb (length out) recordSize q)
+
+  pub no-room-kept : length out < recordSize → out ≡ bytesOf s b out
+  unfolding bytesOf
+  no-room-kept q = rw (lt-ltb (length out) recordSize q)
+
+  module _ (room : recordSize ≤ length out) (x : Head) (is : x ≡ headOf s b) where
+    pub read-number : (i : AudioFrameInfo) → x ≡ Read i → 0 ≡ numberOf s b (length out)
+    unfolding numberOf
+    read-number i e = rw (le-ltb (length out) recordSize room, ← is, e)
+
+    pub read-put : (i : AudioFrameInfo) (last : List ℕ) → x ≡ Read i
+        → last ≡ allLe32 (inOrder (valuesOf i)) ++ drop recordSize out → last ≡ bytesOf s b out
+    unfolding bytesOf le32
+    read-put i last e l = rw (le-ltb (length out) recordSize room, ← is, e) l
+
+    pub refused-number : (g : Refusal) (r : ℕ) → x ≡ Refused g → r ≡ refusalNumber g → r ≡ numberOf s b (length out)
+    unfolding numberOf
+    refused-number g r e l = rw (le-ltb (length out) recordSize room, ← is, e) l
+
+    pub refused-put : (g : Refusal) → x ≡ Refused g → out ≡ bytesOf s b out
+    unfolding bytesOf
+    refused-put g e = rw (le-ltb (length out) recordSize room, ← is, e)
+
+-- and before both the code
+module _ (code : ℕ) (b out : List ℕ) (k : CodedSyntax) (is : k ≡ syntaxOf code) where
+  pub no-syntax : (g : Refusal) (r : ℕ) → k ≡ NoSyntax g → r ≡ refusalNumber g → r ≡ hostNumber code b (length out)
   unfolding hostNumber
-  no-syntax p = rw (lt-ltb 2 code p)
+  no-syntax g r e l = rw (← is, e) l
 
-  pub no-syntax-kept : 2 < code → out ≡ hostBytes code b out
+  pub no-syntax-kept : (g : Refusal) → k ≡ NoSyntax g → out ≡ hostBytes code b out
   unfolding hostBytes
-  no-syntax-kept p = rw (lt-ltb 2 code p)
+  no-syntax-kept g e = rw (← is, e)
 
-  module _ (known : code ≤ 2) where
-    pub no-room : length out < 24 → 12 ≡ hostNumber code b (length out)
-    unfolding hostNumber
-    no-room q = rw (le-ltb 2 code known, lt-ltb (length out) 24 q)
+  pub told : (s : AudioSyntax) (r : ℕ) → k ≡ Known s → r ≡ numberOf s b (length out)
+      → r ≡ hostNumber code b (length out)
+  unfolding hostNumber
+  told s r e l = rw (← is, e) l
 
-    pub no-room-kept : length out < 24 → out ≡ hostBytes code b out
-    unfolding hostBytes
-    no-room-kept q = rw (le-ltb 2 code known, lt-ltb (length out) 24 q)
+  pub put : (s : AudioSyntax) (last : List ℕ) → k ≡ Known s → last ≡ bytesOf s b out → last ≡ hostBytes code b out
+  unfolding hostBytes
+  put s last e l = rw (← is, e) l
 
-    module _ (room : 24 ≤ length out) (x : Head) (is : x ≡ headOfCode code b) where
-      pub told : (r : ℕ) → r ≡ headNumber x → r ≡ hostNumber code b (length out)
-      unfolding hostNumber
-      told r e = rw (le-ltb 2 code known, le-ltb (length out) 24 room, ← is) e
+pub ruleset host = (no-syntax, no-syntax-kept, told, put)
 
-      pub put : (last : List ℕ) → last ≡ headBytes x out → last ≡ hostBytes code b out
-      unfolding hostBytes
-      put last e = rw (le-ltb 2 code known, le-ltb (length out) 24 room, ← is) e
-
--- a head by its case
-pub read-number : (x : Head) (i : AudioFrameInfo) → x ≡ Read i → 0 ≡ headNumber x
-read-number x i e = rw e
-
-pub read-put : (x : Head) (i : AudioFrameInfo) (out last : List ℕ) → x ≡ Read i → last ≡ infoBytes i ++ drop 24 out → last ≡ headBytes x out
-read-put x i out last e l = rw e l
-
-pub refused-number : (x : Head) (n : Refusal) (r : ℕ) → x ≡ Refused n → r ≡ refusalNumber n → r ≡ headNumber x
-refused-number x n r e l = rw e l
-
-pub refused-put : (x : Head) (n : Refusal) (out : List ℕ) → x ≡ Refused n → out ≡ headBytes x out
-refused-put x n out e = rw e
-
-pub ruleset host = (no-syntax, no-syntax-kept, no-room, no-room-kept, told, put, read-number, read-put, refused-number, refused-put)
+pub ruleset host-head = (no-room, no-room-kept, read-number, read-put, refused-number, refused-put)

@@ -21,4 +21,5 @@ pub mod Tables
 pub mod Local
 pub mod Reported
 pub mod Reached
+pub mod Order
 pub mod Promise

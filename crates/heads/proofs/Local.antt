@@ -1,4 +1,5 @@
--- Each syntax's head is decided by its first bytes: what comes after them may be changed, cut or added. Assumes nothing.
+-- Each syntax's head is decided by its first bytes: what comes after them may be changed, cut or added. Assumes
+-- nothing.
 use mathlib.Core.Path.{_≡_, refl, sym, _∙_, ap}
 use mathlib.Core.Bool.{Bool, true, false, not, cond, _&&_}
 use mathlib.Core.List.{List, _++_}
@@ -56,7 +57,9 @@ never : (n : Refusal) (i : AudioFrameInfo) → Refused n ≡ Read i → ⊥
 never n i e = let z : _≡_ {A = ℕ} 0 1 = cc in omega arith
 
 -- a definition that goes by the first m bytes reads the same with bytes added, if it does so from fewer than m
-grown : (f : List ℕ → Head) (m : ℕ) → ((b : List ℕ) → f (take m b) ≡ f b) → ((b c : List ℕ) (i : AudioFrameInfo) → length b < m → f b ≡ Read i → f (b ++ c) ≡ Read i) → (b c : List ℕ) (i : AudioFrameInfo) → f b ≡ Read i → f (b ++ c) ≡ Read i
+grown : (f : List ℕ → Head) (m : ℕ) → ((b : List ℕ) → f (take m b) ≡ f b)
+    → ((b c : List ℕ) (i : AudioFrameInfo) → length b < m → f b ≡ Read i → f (b ++ c) ≡ Read i)
+    → (b c : List ℕ) (i : AudioFrameInfo) → f b ≡ Read i → f (b ++ c) ≡ Read i
 grown f m loc less b c i e = go (ltb (length b) m) refl
   where
     go : (t : Bool) → ltb (length b) m ≡ t → f (b ++ c) ≡ Read i
@@ -84,14 +87,21 @@ abbrev ac3Others : Eac3Fields → Head
 ac3Others f = cond (leb 11 (f .bsid) && leb (f .bsid) 16) (eac3Judged f) (Refused Unsupported)
 
 -- E-AC-3 reads from six
-a52-six : (b c : List ℕ) (i : AudioFrameInfo) → length b < 7 → 6 ≤ length b → a52Head b ≡ Read i → a52Head (b ++ c) ≡ Read i
+a52-six : (b c : List ℕ) (i : AudioFrameInfo) → length b < 7 → 6 ≤ length b → a52Head b ≡ Read i
+    → a52Head (b ++ c) ≡ Read i
 unfolding a52Head byBsid refuseIf
 a52-six b c i h l e =
     let l′ : 6 ≤ length (b ++ c) = rw length-append (omega arith) in
-    let same : number 6 (b ++ c) ≡ number 6 b = sym (number-take 6 6 (b ++ c) (omega arith)) ∙ (ap (number 6) (take-append-le 6 b c l) ∙ number-take 6 6 b (omega arith)) in
-    rw (le-ltb (length (b ++ c)) 6 l′, same) (go (not (eqb (eac3Fields b .syncword) ac3Syncword)) (leb (eac3Fields b .bsid) 8) (rw (le-ltb (length b) 6 l) at e))
+    let same : number 6 (b ++ c) ≡ number 6 b = sym (number-take 6 6 (b ++ c) (omega arith)) ∙
+    (ap (number 6) (take-append-le 6 b c l) ∙ number-take 6 6 b (omega arith)) in
+    rw (le-ltb (length (b ++ c)) 6 l′, same)
+    (go (not (eqb (eac3Fields b .syncword) ac3Syncword)) (leb (eac3Fields b .bsid) 8)
+    (rw (le-ltb (length b) 6 l) at e))
   where
-    go : (s t : Bool) → refuseIf s NoSyncWord (cond t (ac3Judged (length b) (ac3Fields b)) (ac3Others (eac3Fields b))) ≡ Read i → refuseIf s NoSyncWord (cond t (ac3Judged (length (b ++ c)) (ac3Fields (b ++ c))) (ac3Others (eac3Fields b))) ≡ Read i
+    go : (s t : Bool)
+        → refuseIf s NoSyncWord (cond t (ac3Judged (length b) (ac3Fields b)) (ac3Others (eac3Fields b))) ≡ Read i
+        → refuseIf s NoSyncWord (cond t (ac3Judged (length (b ++ c)) (ac3Fields (b ++ c)))
+        (ac3Others (eac3Fields b))) ≡ Read i
     go true t e = e
     go false false e = e
     go false true e = absurd (ac3-not (length b) (ac3Fields b) i h e)

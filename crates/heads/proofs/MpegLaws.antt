@@ -2,6 +2,7 @@
 use mathlib.Core.Path.{_≡_, sym, _∙_}
 use mathlib.Core.List.{List}
 use Prim.Native.Nat.{ℕ, _≤_, _<_, _+_, _*_, _/_, _%_}
+use native.Mathlib.Nat.{mul-one}
 use native.Mathlib.Omega.{arith}
 use lib.ListN.{length, getD}
 use borrow.Author.Tests.{lt-ltb, le-ltb}
@@ -74,16 +75,45 @@ module _ (b : List ℕ) (byte : Bytes b) where
   judged x p j =
       let f = mpegFields b in
       let e : mpegJudged (mpegByBytes b) ≡ mpegJudged f =
-      λ i. mpegJudged (record { syncword = sym syncword-is i; id = sym id-is i; layer = sym layer-is i; «protection_bit» = f .«protection_bit»; «bitrate_index» = sym index-is i; «sampling_frequency» = sym frequency-is i; «padding_bit» = sym padding-is i; «private_bit» = f .«private_bit»; mode = sym mode-is i; «mode_extension» = f .«mode_extension»; copyright = f .copyright; «original_home» = f .«original_home»; emphasis = f .emphasis }) in
+      λ i. mpegJudged (record {
+        syncword = sym syncword-is i;
+        id = sym id-is i;
+        layer = sym layer-is i;
+        «protection_bit» = f .«protection_bit»;
+        «bitrate_index» = sym index-is i;
+        «sampling_frequency» = sym frequency-is i;
+        «padding_bit» = sym padding-is i;
+        «private_bit» = f .«private_bit»;
+        mode = sym mode-is i;
+        «mode_extension» = f .«mode_extension»;
+        copyright = f .copyright;
+        «original_home» = f .«original_home»;
+        emphasis = f .emphasis;
+      }) in
       rw (le-ltb (length b) 4 p) (j ∙ e)
 
 -- a shape's length, from the count of its slots: of four bytes, or of one
-pub fours : (k : AudioFrameKind) (s m n p : ℕ) → m ≡ n → _≡_ {A = MpegShape} (record { «frame_len» = m * 4 + p * 4; samples = s; kind = k }) (record { «frame_len» = n * 4 + p * 4; samples = s; kind = k })
+pub fours : (k : AudioFrameKind) (s m n p : ℕ) → m ≡ n
+    → _≡_ {A = MpegShape} (record {
+      «frame_len» = m * 4 + p * 4;
+      samples = s;
+      kind = k;
+    }) (record { «frame_len» = n * 4 + p * 4; samples = s; kind = k })
 fours k s m n p e = rw e
 
-pub ones : (k : AudioFrameKind) (s m n p : ℕ) → m ≡ n → _≡_ {A = MpegShape} (record { «frame_len» = m + p; samples = s; kind = k }) (record { «frame_len» = n + p; samples = s; kind = k })
-ones k s m n p e = rw e
+pub ones : (k : AudioFrameKind) (s m n p : ℕ) → m ≡ n
+    → _≡_ {A = MpegShape} (record {
+      «frame_len» = m + p;
+      samples = s;
+      kind = k;
+    }) (record { «frame_len» = n * 1 + p * 1; samples = s; kind = k })
+ones k s m n p e = rw (e, mul-one n, mul-one p)
 
 -- what is reported, from what each part was found to be
-pub reported : (id layer index sf padding mode : ℕ) (shape : MpegShape) (kbps rate channels : ℕ) → kbps ≡ mpegKbps id layer index → rate ≡ mpegRate id sf → shape ≡ mpegShape id layer rate (kbps * 1000) padding → channels ≡ mpegChannels mode → mpegRead shape kbps rate channels ≡ mpegRead (mpegShape id layer (mpegRate id sf) (mpegKbps id layer index * 1000) padding) (mpegKbps id layer index) (mpegRate id sf) (mpegChannels mode)
+pub reported : (id layer index sf padding mode : ℕ) (shape : MpegShape) (kbps rate channels : ℕ)
+    → kbps ≡ mpegKbps id layer index → rate ≡ mpegRate id sf → shape ≡ mpegShape id layer rate (kbps * 1000) padding
+    → channels ≡ mpegChannels mode
+    → mpegRead shape kbps rate channels ≡ mpegRead
+    (mpegShape id layer (mpegRate id sf) (mpegKbps id layer index * 1000) padding) (mpegKbps id layer index)
+    (mpegRate id sf) (mpegChannels mode)
 reported id layer index sf padding mode shape kbps rate channels k r s c = rw (s, c, k, r)

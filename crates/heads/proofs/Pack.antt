@@ -35,7 +35,8 @@ unpack-pack (w ∷ ws) (f ∷ fs) h =
     let l = pack-lt ws fs (h .1) in
     let first : (f * 2 ^ t + p) / 2 ^ t % 2 ^ w ≡ f = rw (high f t l) (mod-eq-of-lt (h .0)) in
     let cut : (f * 2 ^ t + p) % 2 ^ (0 + t) ≡ p = rw zero-add (low f t l) in
-    let rest : unpack ws (f * 2 ^ t + p) ≡ fs = sym (unpack-mod ws 0 (f * 2 ^ t + p)) ∙ (ap (unpack ws) cut ∙ unpack-pack ws fs (h .1)) in
+    let rest : unpack ws (f * 2 ^ t + p) ≡ fs = sym (unpack-mod ws 0 (f * 2 ^ t + p)) ∙
+    (ap (unpack ws) cut ∙ unpack-pack ws fs (h .1)) in
     ap₂ _∷_ first rest
 
 pub pack-unpack : (ws : List ℕ) (n : ℕ) → pack ws (unpack ws n) ≡ n % 2 ^ total ws

@@ -1,5 +1,6 @@
--- The promise of this layer: all that the layers above may use of a head, for the syntax as a parameter. (That a slice, a joint or a part is a
--- list of bytes: Bytes.antt, `known`, `bytes-join`, `bytes-take`, `bytes-drop`.) Assumes nothing.
+-- The promise of this layer: all that the layers above may use of a head, for the syntax as a parameter. (That a slice,
+-- a joint or a part is a list of bytes: Bytes.antt, `known`, `bytes-join`, `bytes-take`, `bytes-drop`.) Assumes
+-- nothing.
 use mathlib.Core.Path.{_≡_, refl, sym, _∙_, ap, subst}
 use mathlib.Core.Bool.{Bool, true, false, not, cond}
 use mathlib.Core.List.{List, _++_}
@@ -13,7 +14,7 @@ use lib.Seq.{getD-drop, take-append-le}
 use borrow.Author.Tests.{lt-ltb, eq-eqb, ne-eqb, le-leb, ltb-true, ltb-false}
 use Rattle.heads.specs.Bits.{Bytes}
 use Rattle.heads.specs.Judge.{refuseIf}
-use Rattle.heads.specs.Numbers.{refusalNumber}
+use Rattle.heads.specs.Numbers.{refusalNumber, valuesOf, headAnswer}
 use Rattle.heads.specs.Adts.{adtsHead, adtsJudged, adtsFields}
 use Rattle.heads.specs.Mpeg.{mpegHead, mpegJudged, mpegFields}
 use Rattle.heads.specs.Eac3.{eac3Fields}
@@ -71,7 +72,8 @@ good Ac3 b = a52-good b
 good MpegAudio b = mpeg-good b
 good AacAdts b = adts-good b
 
-pub within : (s : AudioSyntax) (b : List ℕ) (i : AudioFrameInfo) → headOf s b ≡ Read i → Within (boundsOf s) i
+pub within : (s : AudioSyntax) (b : List ℕ) (i : AudioFrameInfo) → headOf s b ≡ Read i
+    → Within (boundsOf s) (valuesOf i)
 within s b i e = subst (Good (boundsOf s)) e (good s b)
 
 -- of every syntax
@@ -81,7 +83,8 @@ length-most Ac3 b i e = omega (arith, within Ac3 b i e .length-in .below)
 length-most MpegAudio b i e = omega (arith, within MpegAudio b i e .length-in .below)
 length-most AacAdts b i e = within AacAdts b i e .length-in .below
 
-pub samples-most : (s : AudioSyntax) (b : List ℕ) (i : AudioFrameInfo) → headOf s b ≡ Read i → i .«samples_per_frame» ≤ 4096
+pub samples-most : (s : AudioSyntax) (b : List ℕ) (i : AudioFrameInfo) → headOf s b ≡ Read i
+    → i .«samples_per_frame» ≤ 4096
 unfolding boundsOf
 samples-most Ac3 b i e = omega (arith, within Ac3 b i e .samples-in .below)
 samples-most MpegAudio b i e = omega (arith, within MpegAudio b i e .samples-in .below)
@@ -94,7 +97,8 @@ rate-least MpegAudio b i e = omega (arith, within MpegAudio b i e .rate-in .abov
 rate-least AacAdts b i e = within AacAdts b i e .rate-in .above
 
 -- a length of at least the need is at least 7
-pub whole-length : (s : AudioSyntax) (b : List ℕ) (i : AudioFrameInfo) → headOf s b ≡ Read i → needOf s ≤ i .«frame_len» → 7 ≤ i .«frame_len»
+pub whole-length : (s : AudioSyntax) (b : List ℕ) (i : AudioFrameInfo) → headOf s b ≡ Read i
+    → needOf s ≤ i .«frame_len» → 7 ≤ i .«frame_len»
 unfolding boundsOf needOf
 whole-length Ac3 b i e h = omega arith
 whole-length MpegAudio b i e h = omega (arith, within MpegAudio b i e .length-in .above)
@@ -131,7 +135,8 @@ no-sixteen p q hq e is =
     differ (rw (eq-eqb p 0x0B first, le-leb 0x77 q second, le-leb q 0x77 third) at e)
 
 module _ (l : List ℕ) (byte : Bytes l) where
-  unread-twelve : pairBegins 0xFF 0xF0 0xFF (getD l 0 0) (getD l 1 0) ≡ false → getD l 0 0 * 16 + getD l 1 0 / 16 ≡ 0xFFF → ⊥
+  unread-twelve : pairBegins 0xFF 0xF0 0xFF (getD l 0 0) (getD l 1 0) ≡ false
+      → getD l 0 0 * 16 + getD l 1 0 / 16 ≡ 0xFFF → ⊥
   unfolding Bytes
   unread-twelve e = no-twelve (getD l 0 0) (getD l 1 0) (byte 0) (byte 1) e
 
@@ -139,7 +144,8 @@ module _ (l : List ℕ) (byte : Bytes l) where
   unfolding a52Head Bytes
   unread-a52 e =
       let none : eqb (eac3Fields l .syncword) ac3Syncword ≡ false =
-      ne-eqb (eac3Fields l .syncword) ac3Syncword (λ is. no-sixteen (getD l 0 0) (getD l 1 0) (byte 1) e (sym (a52-syncword l byte) ∙ is)) in
+      ne-eqb (eac3Fields l .syncword) ac3Syncword
+      (λ is. no-sixteen (getD l 0 0) (getD l 1 0) (byte 1) e (sym (a52-syncword l byte) ∙ is)) in
       unread-if _ _ _ λ _. unread-on _ _ _ (ap not none)
 
   unread-mpeg : pairBegins 0xFF 0xF0 0xFF (getD l 0 0) (getD l 1 0) ≡ false → Unread (mpegHead l)
@@ -164,17 +170,27 @@ module _ (b c : List ℕ) (k : ℕ) where
   second-of : suc k < length b → getD (drop k (b ++ c)) 1 0 ≡ getD b (suc k) 0
   second-of h = rw (getD-drop k (b ++ c) 1 0, add-one) (List·getD-append b c 0 (suc k) h)
 
-pub skipped : (s : AudioSyntax) (b c : List ℕ) → Bytes (b ++ c) → (k : ℕ) → k < syncPlace s b → Unread (headOf s (drop k (b ++ c)))
+pub skipped : (s : AudioSyntax) (b c : List ℕ) → Bytes (b ++ c) → (k : ℕ) → k < syncPlace s b
+    → Unread (headOf s (drop k (b ++ c)))
 unfolding headOf syncPlace
 skipped Ac3 b c byte k h =
     let room = place-room 0x0B 0x77 0x77 b k h in
-    unread-a52 (drop k (b ++ c)) (bytes-drop k (b ++ c) byte) (rw (first-of b c k room, second-of b c k room) (place-silent 0x0B 0x77 0x77 b k h))
+    unread-a52 (drop k (b ++ c)) (bytes-drop k (b ++ c) byte) (rw (
+      first-of b c k room,
+      second-of b c k room,
+    ) (place-silent 0x0B 0x77 0x77 b k h))
 skipped MpegAudio b c byte k h =
     let room = place-room 0xFF 0xF0 0xFF b k h in
-    unread-mpeg (drop k (b ++ c)) (bytes-drop k (b ++ c) byte) (rw (first-of b c k room, second-of b c k room) (place-silent 0xFF 0xF0 0xFF b k h))
+    unread-mpeg (drop k (b ++ c)) (bytes-drop k (b ++ c) byte) (rw (
+      first-of b c k room,
+      second-of b c k room,
+    ) (place-silent 0xFF 0xF0 0xFF b k h))
 skipped AacAdts b c byte k h =
     let room = place-room 0xFF 0xF0 0xFF b k h in
-    unread-adts (drop k (b ++ c)) (bytes-drop k (b ++ c) byte) (rw (first-of b c k room, second-of b c k room) (place-silent 0xFF 0xF0 0xFF b k h))
+    unread-adts (drop k (b ++ c)) (bytes-drop k (b ++ c) byte) (rw (
+      first-of b c k room,
+      second-of b c k room,
+    ) (place-silent 0xFF 0xF0 0xFF b k h))
 
 -- a place that is passed has a byte after it, so the place is within b
 pub skipped-room : (s : AudioSyntax) (b : List ℕ) (k : ℕ) → k < syncPlace s b → suc k < length b
@@ -187,7 +203,9 @@ pub skipped-most : (s : AudioSyntax) (b : List ℕ) → syncPlace s b ≤ length
 skipped-most s b = go (ltb (length b) (syncPlace s b)) refl
   where
     go : (t : Bool) → ltb (length b) (syncPlace s b) ≡ t → syncPlace s b ≤ length b
-    go true e = absurd (let past = skipped-room s b (length b) (ltb-true (length b) (syncPlace s b) e) in let no : ⊥ = omega arith in no)
+    go true e =
+        absurd (let past = skipped-room s b (length b)
+        (ltb-true (length b) (syncPlace s b) e) in let no : ⊥ = omega arith in no)
     go false e = ltb-false (length b) (syncPlace s b) e
 
 -- the header need is 4 to 8 bytes, and no head reads from fewer than 4
@@ -203,7 +221,8 @@ need-most Ac3 = omega arith
 need-most MpegAudio = omega arith
 need-most AacAdts = omega arith
 
-few : (n : ℕ) (h : Head) (b : List ℕ) (i : AudioFrameInfo) → 4 ≤ n → (length b < n → Refused ShortHead ≡ h) → h ≡ Read i → 4 ≤ length b
+few : (n : ℕ) (h : Head) (b : List ℕ) (i : AudioFrameInfo) → 4 ≤ n → (length b < n → Refused ShortHead ≡ h)
+    → h ≡ Read i → 4 ≤ length b
 few n h b i p short e = go (ltb (length b) n) refl
   where
     go : (t : Bool) → ltb (length b) n ≡ t → 4 ≤ length b
@@ -223,8 +242,14 @@ code-number zero = refl
 code-number (suc zero) = refl
 code-number (suc (suc zero)) = refl
 code-number (suc (suc (suc code))) =
-    let other : (n : ℕ) → n ≤ 2 → eqb (suc (suc (suc code))) n ≡ false = λ n h. ne-eqb (suc (suc (suc code))) n (λ e. let no : ⊥ = omega arith in no) in
-    rw (other 0 (omega arith), other 1 (omega arith), other 2 (omega arith), lt-ltb 2 (suc (suc (suc code))) (omega arith))
+    let other : (n : ℕ) → n ≤ 2 → eqb (suc (suc (suc code))) n ≡ false = λ n h. ne-eqb (suc (suc (suc code))) n
+    (λ e. let no : ⊥ = omega arith in no) in
+    rw (
+      other 0 (omega arith),
+      other 1 (omega arith),
+      other 2 (omega arith),
+      lt-ltb 2 (suc (suc (suc code))) (omega arith),
+    )
 
 -- reading by a code is reading by its syntax, and a code that has none is refused by 7
 pub coded : (code : ℕ) (s : AudioSyntax) (b : List ℕ) → syntaxOf code ≡ Known s → headOfCode code b ≡ headOf s b
@@ -235,7 +260,10 @@ pub uncoded : (code : ℕ) (ground : Refusal) → syntaxOf code ≡ CodedSyntax.
 unfolding syntaxOf
 uncoded code ground e = go (eqb code 0) (eqb code 1) (eqb code 2) e
   where
-    go : (p q r : Bool) → cond p (Known Ac3) (cond q (Known MpegAudio) (cond r (Known AacAdts) (CodedSyntax.Refused SyntaxCode))) ≡ CodedSyntax.Refused ground → refusalNumber ground ≡ 7
+    go : (p q r : Bool)
+        → cond p (Known Ac3) (cond q (Known MpegAudio)
+        (cond r (Known AacAdts) (CodedSyntax.Refused SyntaxCode))) ≡ CodedSyntax.Refused ground
+        → refusalNumber ground ≡ 7
     go true q r e = absurd (let z : _≡_ {A = ℕ} 0 1 = cc in omega arith)
     go false true r e = absurd (let z : _≡_ {A = ℕ} 0 1 = cc in omega arith)
     go false false true e = absurd (let z : _≡_ {A = ℕ} 0 1 = cc in omega arith)

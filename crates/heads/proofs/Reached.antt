@@ -1,10 +1,11 @@
--- The bounds of the promise are tight: heads of each syntax together say every least and every greatest number. Assumes nothing.
+-- The bounds of the promise are tight: heads of each syntax together say every least and every greatest number. Assumes
+-- nothing.
 use mathlib.Core.Path.{_≡_, refl}
 use mathlib.Core.List.{List, [], _∷_, map}
 use Prim.Native.Nat.{ℕ, min, max, _^_}
 use Rattle.heads.specs.Bits.{number}
 use Rattle.heads.specs.Judge.{refuseIf}
-use Rattle.heads.specs.Numbers.{bitRateNumber}
+use Rattle.heads.specs.Numbers.{valuesOf}
 use Rattle.heads.specs.Ac3.{ac3Judged, ac3TailWidths, cmixlevBits, surmixlevBits, dsurmodBits, mixBits, ac3Words, ac3Kbps, nfchans}
 use Rattle.heads.specs.Eac3.{eac3Judged, eac3TailWidths, fscod2Bits, numblkscodBits}
 use Rattle.heads.specs.A52.{a52Head, byBsid}
@@ -23,12 +24,13 @@ withNumber n r = min n (r .least) to max n (r .greatest)
 abbrev pub withHead : Head → Bounds → Bounds
 withHead (Refused ground) n = n
 withHead (Read i) n =
+    let v = valuesOf i in
     record {
-      lengths = withNumber (i .«frame_len») (n .lengths);
-      samples = withNumber (i .«samples_per_frame») (n .samples);
-      rates = withNumber (i .«sample_rate») (n .rates);
-      channels = withNumber (i .channels) (n .channels);
-      bits = withNumber (bitRateNumber (i .«bit_rate»)) (n .bits);
+      lengths = withNumber (v .length) (n .lengths);
+      samples = withNumber (v .samples) (n .samples);
+      rates = withNumber (v .rate) (n .rates);
+      channels = withNumber (v .channels) (n .channels);
+      bits = withNumber (v .bits) (n .bits);
     }
 
 -- the bounds of what heads say; of none, the empty range

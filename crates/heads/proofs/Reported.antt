@@ -13,7 +13,7 @@ use Rattle.heads.proofs.Entries.{both, both-left, both-right, least, mo
 use Rattle.heads.proofs.Below.{upTo, below}
 use Rattle.heads.specs.Bits.{number}
 use Rattle.heads.specs.Judge.{refuseIf}
-use Rattle.heads.specs.Numbers.{bitRateNumber}
+use Rattle.heads.specs.Numbers.{Values, valuesOf}
 use Rattle.heads.specs.Adts.{adtsHead, adtsJudged, adtsFields, adtsRates, adtsChannels, adtsHeaderLength}
 use Rattle.heads.specs.Mpeg.{mpegHead, mpegJudged, mpegNamed, mpegFields, mpegKbps, mpegRate, mpegShape, layer3Shape, mpegChannels}
 use Rattle.heads.specs.Ac3.{ac3Judged, ac3Fields, ac3Words, ac3Kbps, ac3Rates, nfchans, codingModes, ac3TailWidths}
@@ -23,7 +23,6 @@ use Rattle.heads.specs.Promise.{Range, _to_, Bounds, boundsOf, In, Withi
 use Rattle.heads.specs.declared.fields.Ac3Fields.{Ac3Fields}
 use Rattle.heads.specs.declared.fields.Eac3Fields.{Eac3Fields}
 use Rattle.heads.specs.declared.syntax.AudioSyntax.the-variants.{Ac3, MpegAudio, AacAdts}
-use Rattle.heads.specs.declared.info.AudioFrameInfo.{AudioFrameInfo}
 use Rattle.heads.specs.declared.info.Head.{Head}
 use Rattle.heads.specs.declared.info.Head.the-variants.{Read, Refused}
 use Rattle.heads.specs.declared.info.Refusal.{Refusal}
@@ -31,11 +30,12 @@ use Rattle.heads.specs.declared.info.Refusal.the-variants.{NoSyncWord, U
 
 -- a head that reads says numbers within those bounds
 abbrev pub Good : Bounds → Head → Type 0
-Good n (Read i) = Within n i
+Good n (Read i) = Within n (valuesOf i)
 Good n (Refused ground) = Unit {0}
 
 module _ (n : Bounds) where
-  refuse-good : (t : Bool) (ground : Refusal) (rest : Head) → (t ≡ false → Good n rest) → Good n (refuseIf t ground rest)
+  refuse-good : (t : Bool) (ground : Refusal) (rest : Head) → (t ≡ false → Good n rest)
+      → Good n (refuseIf t ground rest)
   unfolding refuseIf
   refuse-good true ground rest g = tt
   refuse-good false ground rest g = g refl
@@ -64,9 +64,20 @@ adts-good b =
     refuse-good n _ _ _ λ r.
     refuse-good n _ _ _ λ l.
     record {
-      length-in = record { above = omega (arith, ltb-false (f .«frame_length») (adtsHeaderLength (f .«protection_absent»)) l, header-least (f .«protection_absent»)); below = omega arith };
+      length-in = record {
+        above = omega (
+          arith,
+          ltb-false (f .«frame_length») (adtsHeaderLength (f .«protection_absent»)) l,
+          header-least (f .«protection_absent»),
+        );
+        below = omega arith;
+      };
       samples-in = record { above = omega arith; below = omega arith };
-      rate-in = record { above = least 8000 adtsRates (f .«sampling_frequency_index») (leb-false 12 (f .«sampling_frequency_index») r) tt; below = most 96000 adtsRates (f .«sampling_frequency_index») tt };
+      rate-in = record {
+        above = least 8000 adtsRates (f .«sampling_frequency_index»)
+            (leb-false 12 (f .«sampling_frequency_index») r) tt;
+        below = most 96000 adtsRates (f .«sampling_frequency_index») tt;
+      };
       channels-in = record { above = omega arith; below = most 8 adtsChannels (f .«channel_configuration») tt };
       bits-in = record { above = omega arith; below = omega arith };
     }
@@ -75,16 +86,16 @@ adts-good b =
 abbrev inTest : ℕ → ℕ → ℕ → Bool
 inTest a n b = both (leb a n) (leb n b)
 
-abbrev withinTest : Bounds → AudioFrameInfo → Bool
-withinTest n i =
-    both (inTest (n .lengths .least) (i .«frame_len») (n .lengths .greatest))
-    (both (inTest (n .samples .least) (i .«samples_per_frame») (n .samples .greatest))
-    (both (inTest (n .rates .least) (i .«sample_rate») (n .rates .greatest))
-    (both (inTest (n .channels .least) (i .channels) (n .channels .greatest))
-    (inTest (n .bits .least) (bitRateNumber (i .«bit_rate»)) (n .bits .greatest)))))
+abbrev withinTest : Bounds → Values → Bool
+withinTest n v =
+    both (inTest (n .lengths .least) (v .length) (n .lengths .greatest))
+    (both (inTest (n .samples .least) (v .samples) (n .samples .greatest))
+    (both (inTest (n .rates .least) (v .rate) (n .rates .greatest))
+    (both (inTest (n .channels .least) (v .channels) (n .channels .greatest))
+    (inTest (n .bits .least) (v .bits) (n .bits .greatest)))))
 
 abbrev goodTest : Bounds → Head → Bool
-goodTest n (Read i) = withinTest n i
+goodTest n (Read i) = withinTest n (valuesOf i)
 goodTest n (Refused ground) = true
 
 test-in : (r : Range) (x : ℕ) → T (inTest (r .least) x (r .greatest)) → In r x
@@ -95,22 +106,25 @@ test-in r x t =
     }
 
 test-part : (r : Range) (x : ℕ) (rest : Bool) → T (both (inTest (r .least) x (r .greatest)) rest) → In r x × T rest
-test-part r x rest t =
-    (test-in r x (both-left (inTest (r .least) x (r .greatest)) rest t), both-right (inTest (r .least) x (r .greatest)) rest t)
+test-part r x rest t = (
+  test-in r x (both-left (inTest (r .least) x (r .greatest)) rest t),
+  both-right (inTest (r .least) x (r .greatest)) rest t,
+)
 
 test-good : (n : Bounds) (x : Head) → T (goodTest n x) → Good n x
 test-good n (Refused ground) t = tt
 test-good n (Read i) t =
-    let p1 = test-part (n .lengths) (i .«frame_len») _ t in
-    let p2 = test-part (n .samples) (i .«samples_per_frame») _ (p1 .1) in
-    let p3 = test-part (n .rates) (i .«sample_rate») _ (p2 .1) in
-    let p4 = test-part (n .channels) (i .channels) _ (p3 .1) in
+    let v = valuesOf i in
+    let p1 = test-part (n .lengths) (v .length) _ t in
+    let p2 = test-part (n .samples) (v .samples) _ (p1 .1) in
+    let p3 = test-part (n .rates) (v .rate) _ (p2 .1) in
+    let p4 = test-part (n .channels) (v .channels) _ (p3 .1) in
     record {
       length-in = p1 .0;
       samples-in = p2 .0;
       rate-in = p3 .0;
       channels-in = p4 .0;
-      bits-in = test-in (n .bits) (bitRateNumber (i .«bit_rate»)) (p4 .1);
+      bits-in = test-in (n .bits) (v .bits) (p4 .1);
     }
 
 mpegOf : ℕ → ℕ → ℕ → ℕ → ℕ → ℕ → Head
@@ -139,7 +153,8 @@ mpeg-tested : T (upTo 2 byId)
 unfolding byId byLayer byIndex byRate byPadding byMode mpegOf mpegJudged mpegKbps mpegRate mpegShape layer3Shape mpegChannels refuseIf boundsOf
 mpeg-tested = tt
 
-mpeg-of-good : (id layer index sf padding mode : ℕ) → id < 2 → layer < 4 → index < 16 → sf < 4 → padding < 2 → mode < 4 → Good (boundsOf MpegAudio) (mpegOf id layer index sf padding mode)
+mpeg-of-good : (id layer index sf padding mode : ℕ) → id < 2 → layer < 4 → index < 16 → sf < 4 → padding < 2 → mode < 4
+    → Good (boundsOf MpegAudio) (mpegOf id layer index sf padding mode)
 unfolding byId byLayer byIndex byRate byPadding byMode
 mpeg-of-good id layer index sf padding mode h1 h2 h3 h4 h5 h6 =
     test-good (boundsOf MpegAudio) (mpegOf id layer index sf padding mode)
@@ -154,7 +169,8 @@ mpeg-judged-good : (b : List ℕ) → Good (boundsOf MpegAudio) (mpegJudged (mpe
 unfolding mpegJudged mpegOf refuseIf
 mpeg-judged-good b =
     let f = mpegFields b in
-    refuse-good (boundsOf MpegAudio) (not (eqb (f .syncword) 0xFFF)) NoSyncWord (mpegOf (f .id) (f .layer) (f .«bitrate_index») (f .«sampling_frequency») (f .«padding_bit») (f .mode)) λ _.
+    refuse-good (boundsOf MpegAudio) (not (eqb (f .syncword) 0xFFF)) NoSyncWord
+    (mpegOf (f .id) (f .layer) (f .«bitrate_index») (f .«sampling_frequency») (f .«padding_bit») (f .mode)) λ _.
     mpeg-of-good (f .id) (f .layer) (f .«bitrate_index») (f .«sampling_frequency») (f .«padding_bit») (f .mode)
     (omega arith) (omega arith) (omega arith) (omega arith) (omega arith) (omega arith)
 
@@ -177,8 +193,11 @@ sized : (fscod k : ℕ) → fscod < 4 → k < 38 → (64 ≤ ac3Words fscod k) �
 unfolding sizeTest
 sized fscod k h l =
     let t = sizes-tested fscod k h l in
-    let w = both-left (inTest 64 (ac3Words fscod k) 1920) (leb (ac3Kbps k) 640) t in
-    (leb→le 64 (ac3Words fscod k) (both-left (leb 64 (ac3Words fscod k)) (leb (ac3Words fscod k) 1920) w), leb→le (ac3Words fscod k) 1920 (both-right (leb 64 (ac3Words fscod k)) (leb (ac3Words fscod k) 1920) w), leb→le (ac3Kbps k) 640 (both-right (inTest 64 (ac3Words fscod k) 1920) (leb (ac3Kbps k) 640) t))
+    let w = both-left (inTest 64 (ac3Words fscod k) 1920) (leb (ac3Kbps k) 640) t in (
+      leb→le 64 (ac3Words fscod k) (both-left (leb 64 (ac3Words fscod k)) (leb (ac3Words fscod k) 1920) w),
+      leb→le (ac3Words fscod k) 1920 (both-right (leb 64 (ac3Words fscod k)) (leb (ac3Words fscod k) 1920) w),
+      leb→le (ac3Kbps k) 640 (both-right (inTest 64 (ac3Words fscod k) 1920) (leb (ac3Kbps k) 640) t),
+    )
 
 channelled : (acmod lfeon : ℕ) → acmod < 8 → lfeon < 2 → In (1 to 6) (nfchans acmod + lfeon)
 unfolding nfchans
@@ -202,7 +221,8 @@ ac3-good n f hf ha hl =
       bits-in = record { above = omega arith; below = omega arith };
     }
 
-eac3-good : (f : Eac3Fields) → f .frmsiz < 2048 → f .fscod < 4 → f .fscod2 < 4 → f .numblkscod < 4 → f .acmod < 8 → f .lfeon < 2 → Good (boundsOf Ac3) (eac3Judged f)
+eac3-good : (f : Eac3Fields) → f .frmsiz < 2048 → f .fscod < 4 → f .fscod2 < 4 → f .numblkscod < 4 → f .acmod < 8
+    → f .lfeon < 2 → Good (boundsOf Ac3) (eac3Judged f)
 unfolding eac3Judged boundsOf
 eac3-good f hs hf h2 hn ha hl =
     let m = boundsOf Ac3 in
@@ -213,7 +233,10 @@ eac3-good f hs hf h2 hn ha hl =
     record {
       length-in = record { above = omega arith; below = omega arith };
       samples-in = record { above = omega arith; below = omega arith };
-      rate-in = record { above = least 16000 eac3Rates (f .fscod2) code tt; below = omega (arith, most 24000 eac3Rates (f .fscod2) tt) };
+      rate-in = record {
+        above = least 16000 eac3Rates (f .fscod2) code tt;
+        below = omega (arith, most 24000 eac3Rates (f .fscod2) tt);
+      };
       channels-in = channelled (f .acmod) (f .lfeon) ha hl;
       bits-in = record { above = omega arith; below = omega arith };
     })
@@ -221,8 +244,14 @@ eac3-good f hs hf h2 hn ha hl =
     let rate : f .fscod < 3 = omega (arith, eqb-false (f .fscod) 3 r) in
     record {
       length-in = record { above = omega arith; below = omega arith };
-      samples-in = record { above = omega (arith, least 1 eac3Blocks (f .numblkscod) hn tt); below = omega (arith, most 6 eac3Blocks (f .numblkscod) tt) };
-      rate-in = record { above = omega (arith, least 32000 ac3Rates (f .fscod) rate tt); below = most 48000 ac3Rates (f .fscod) tt };
+      samples-in = record {
+        above = omega (arith, least 1 eac3Blocks (f .numblkscod) hn tt);
+        below = omega (arith, most 6 eac3Blocks (f .numblkscod) tt);
+      };
+      rate-in = record {
+        above = omega (arith, least 32000 ac3Rates (f .fscod) rate tt);
+        below = most 48000 ac3Rates (f .fscod) tt;
+      };
       channels-in = channelled (f .acmod) (f .lfeon) ha hl;
       bits-in = record { above = omega arith; below = omega arith };
     })
@@ -255,6 +284,9 @@ a52-good b =
     let fscod = fscodOf (number 6 b) in
     refuse-good m _ _ _ λ _.
     refuse-good m _ _ _ λ _.
-    cond-good m (leb (f .bsid) 8) (ac3Judged (length b) (ac3Fields b)) (cond (leb 11 (f .bsid) && leb (f .bsid) 16) (eac3Judged f) (Refused Unsupported))
+    cond-good m (leb (f .bsid) 8) (ac3Judged (length b) (ac3Fields b))
+    (cond (leb 11 (f .bsid) && leb (f .bsid) 16) (eac3Judged f) (Refused Unsupported))
     (λ _. ac3-good (length b) (ac3Fields b) (omega arith) (omega arith) (omega arith))
-    (λ _. cond-good m (leb 11 (f .bsid) && leb (f .bsid) 16) (eac3Judged f) (Refused Unsupported) (λ _. eac3-good f (omega arith) (omega arith) (two-bits _ (fscod2Bits fscod) (fscod2-two fscod)) (two-bits _ (numblkscodBits fscod) (numblkscod-two fscod)) (omega arith) (omega arith)) (λ _. tt))
+    (λ _. cond-good m (leb 11 (f .bsid) && leb (f .bsid) 16) (eac3Judged f) (Refused Unsupported)
+    (λ _. eac3-good f (omega arith) (omega arith) (two-bits _ (fscod2Bits fscod) (fscod2-two fscod))
+    (two-bits _ (numblkscodBits fscod) (numblkscod-two fscod)) (omega arith) (omega arith)) (λ _. tt))

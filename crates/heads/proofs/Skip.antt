@@ -31,7 +31,9 @@ module _ (first low high : ℕ) where
   Silent b n = (k : ℕ) → k < n → pairBegins first low high (getD b k 0) (getD b (suc k) 0) ≡ false
 
   -- a place with none before it, where one begins or the last byte stands, is the place
-  pub place-is : (b : List ℕ) (at : ℕ) → at < length b → Silent b at → (suc at < length b → pairBegins first low high (getD b at 0) (getD b (suc at) 0) ≡ true) → at ≡ placeOf first low high b
+  pub place-is : (b : List ℕ) (at : ℕ) → at < length b → Silent b at
+      → (suc at < length b → pairBegins first low high (getD b at 0) (getD b (suc at) 0) ≡ true)
+      → at ≡ placeOf first low high b
   place-is [] at h s stop = absurd (not-suc-le-zero h)
   place-is (p ∷ []) zero h s stop = refl
   place-is (p ∷ []) (suc at) h s stop = absurd (not-suc-le-zero (le-of-suc-le-suc h))
@@ -46,7 +48,9 @@ module _ (first low high : ℕ) where
   place-silent (p ∷ []) k h = absurd (not-suc-le-zero h)
   place-silent (p ∷ q ∷ b) k h = go (pairBegins first low high p q) refl k h (place-silent (q ∷ b))
     where
-      go : (t : Bool) → pairBegins first low high p q ≡ t → (k : ℕ) → k < placeOf first low high (p ∷ q ∷ b) → Silent (q ∷ b) (placeOf first low high (q ∷ b)) → pairBegins first low high (getD (p ∷ q ∷ b) k 0) (getD (p ∷ q ∷ b) (suc k) 0) ≡ false
+      go : (t : Bool) → pairBegins first low high p q ≡ t → (k : ℕ) → k < placeOf first low high (p ∷ q ∷ b)
+          → Silent (q ∷ b) (placeOf first low high (q ∷ b))
+          → pairBegins first low high (getD (p ∷ q ∷ b) k 0) (getD (p ∷ q ∷ b) (suc k) 0) ≡ false
       go true e k h s = absurd (not-suc-le-zero (rw e at h))
       go false e zero h s = e
       go false e (suc k) h s = s k (le-of-suc-le-suc (rw e at h))
@@ -57,7 +61,8 @@ module _ (first low high : ℕ) where
   place-room (p ∷ []) k h = absurd (not-suc-le-zero h)
   place-room (p ∷ q ∷ b) k h = go (pairBegins first low high p q) refl k h (place-room (q ∷ b))
     where
-      go : (t : Bool) → pairBegins first low high p q ≡ t → (k : ℕ) → k < placeOf first low high (p ∷ q ∷ b) → ((j : ℕ) → j < placeOf first low high (q ∷ b) → suc j < length (q ∷ b)) → suc k < length (p ∷ q ∷ b)
+      go : (t : Bool) → pairBegins first low high p q ≡ t → (k : ℕ) → k < placeOf first low high (p ∷ q ∷ b)
+          → ((j : ℕ) → j < placeOf first low high (q ∷ b) → suc j < length (q ∷ b)) → suc k < length (p ∷ q ∷ b)
       go true e k h r = absurd (not-suc-le-zero (rw e at h))
       go false e zero h r = omega arith
       go false e (suc k) h r = suc-le-suc (r k (le-of-suc-le-suc (rw e at h)))
@@ -74,14 +79,19 @@ module _ (first low high : ℕ) where
           subst⁻¹ P same p
 
   -- one place more
-  pub silent-more : (b : List ℕ) (i : ℕ) → Silent b i → pairBegins first low high (getD b i 0) (getD b (i + 1) 0) ≡ false → Silent b (i + 1)
-  silent-more b i s e = up-to (λ k. pairBegins first low high (getD b k 0) (getD b (suc k) 0) ≡ false) i s (rw (add-one i) at e)
+  pub silent-more : (b : List ℕ) (i : ℕ) → Silent b i
+      → pairBegins first low high (getD b i 0) (getD b (i + 1) 0) ≡ false → Silent b (i + 1)
+  silent-more b i s e =
+      up-to (λ k. pairBegins first low high (getD b k 0) (getD b (suc k) 0) ≡ false) i s (rw (add-one i) at e)
 
-  pub clear-more : (t u : List ℕ) (i : ℕ) → Clear first low high t u i → pairBegins first low high (getD t i 0) (getD u i 0) ≡ false → Clear first low high t u (i + 1)
+  pub clear-more : (t u : List ℕ) (i : ℕ) → Clear first low high t u i
+      → pairBegins first low high (getD t i 0) (getD u i 0) ≡ false → Clear first low high t u (i + 1)
   clear-more t u i c e = up-to (λ k. pairBegins first low high (getD t k 0) (getD u k 0) ≡ false) i c e
 
   -- and thirty-two
-  pub silent-block : (b : List ℕ) (i m n : ℕ) → m ≡ 32 → n ≡ 32 → i + 32 ≤ length b → Silent b i → Clear first low high (take m (drop i b)) (take n (drop (i + 1) b)) (length (take m (drop i b))) → Silent b (i + 32)
+  pub silent-block : (b : List ℕ) (i m n : ℕ) → m ≡ 32 → n ≡ 32 → i + 32 ≤ length b → Silent b i
+      → Clear first low high (take m (drop i b)) (take n (drop (i + 1) b)) (length (take m (drop i b)))
+      → Silent b (i + 32)
   silent-block b i m n em en room s c k l = go (ltb k i) refl
     where
       go : (t : Bool) → ltb k i ≡ t → pairBegins first low high (getD b k 0) (getD b (suc k) 0) ≡ false
@@ -89,10 +99,21 @@ module _ (first low high : ℕ) where
       go false e =
           let ge : i ≤ k = ltb-false k i e in
           let j : k - i < 32 = omega arith in
-          let inside : k - i < length (take m (drop i b)) = rw (length-take m (drop i b), length-drop i b, em) (omega arith) in
+          let inside : k - i < length (take m (drop i b)) = rw (
+            length-take m (drop i b),
+            length-drop i b,
+            em,
+          ) (omega arith) in
           let same : i + (k - i) ≡ k = omega arith in
           let then : i + 1 + (k - i) ≡ suc k = omega arith in
-          rw (getD-take m (drop i b) (k - i) 0 (omega arith), getD-take n (drop (i + 1) b) (k - i) 0 (omega arith), getD-drop i b (k - i) 0, getD-drop (i + 1) b (k - i) 0, same, then) at (c (k - i) inside)
+          rw (
+            getD-take m (drop i b) (k - i) 0 (omega arith),
+            getD-take n (drop (i + 1) b) (k - i) 0 (omega arith),
+            getD-drop i b (k - i) 0,
+            getD-drop (i + 1) b (k - i) 0,
+            same,
+            then,
+          ) at (c (k - i) inside)
 
   pub place-none : (b : List ℕ) → length b ≡ 0 → 0 ≡ placeOf first low high b
   place-none [] h = refl

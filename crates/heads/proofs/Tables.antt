@@ -1,14 +1,17 @@
--- The standards' tables, each tied to its rule or to a second form by a test that is computed over all of its entries. Assumes nothing.
-use mathlib.Core.Path.{_≡_}
+-- The standards' tables, each tied to its rule or to a second form by a test that is computed over all of its entries.
+-- Assumes nothing.
+use mathlib.Core.Path.{_≡_, refl, sym}
 use mathlib.Core.Bool.{Bool, cond}
-use mathlib.Core.List.{[], _∷_}
+use mathlib.Core.List.{[], _∷_, map}
 use Prim.Native.Nat.{ℕ, _<_, _+_, _-_, _*_, _/_, _%_, _^_}
+use native.Mathlib.Nat.{mul-assoc, mul-comm, mul-div-mul-right}
+use native.Mathlib.Omega.{arith}
 use lib.Dec.{T, eqb, leb, eqb→eq}
 use lib.ListN.{getD}
 use Rattle.heads.proofs.Below.{upTo, below}
 use Rattle.heads.specs.Ac3.{ac3Words, ac3Kbps, ac3Rates, nfchans, cmixlevBits, surmixlevBits}
 use Rattle.heads.specs.Eac3.{eac3Rates, eac3Blocks}
-use Rattle.heads.specs.Mpeg.{mpegKbps, mpegRate}
+use Rattle.heads.specs.Mpeg.{Layer, layer1, layer2, layer3, lowLayer3, mpegKbps, mpegRate}
 use Rattle.heads.specs.Adts.{adtsRates, adtsChannels}
 
 -- two forms agree at every entry below n, and at every row below m
@@ -18,15 +21,16 @@ agrees n f g = upTo n (λ (k : ℕ). eqb (f k) (g k))
 agree : (n : ℕ) (f g : ℕ → ℕ) → T (agrees n f g) → (k : ℕ) → k < n → f k ≡ g k
 agree n f g t k h = eqb→eq (f k) (g k) (below n (λ (j : ℕ). eqb (f j) (g j)) t k h)
 
-agree-rows : (m n : ℕ) (f g : ℕ → ℕ → ℕ) → T (upTo m (λ (i : ℕ). agrees n (f i) (g i))) → (i k : ℕ) → i < m → k < n → f i k ≡ g i k
+agree-rows : (m n : ℕ) (f g : ℕ → ℕ → ℕ) → T (upTo m (λ (i : ℕ). agrees n (f i) (g i))) → (i k : ℕ) → i < m → k < n
+    → f i k ≡ g i k
 agree-rows m n f g t i k h l = agree n (f i) (g i) (below m (λ (j : ℕ). agrees n (f j) (g j)) t i h) k l
 
 -- four steps to each doubling: 32, 40, 48, 56, 64, 80, ..
 abbrev pub quarters : ℕ → ℕ
 quarters n = (4 + n % 4) * 2 ^ (n / 4) * 8
 
--- Table 5.18: a syncframe is 1536 samples long, so it has floor(bit rate × 1536 / rate) bits, in words of 16; at 44.1 kHz, where that is no
--- whole number, the odd frmsizecod has one word more
+-- Table 5.18: a syncframe is 1536 samples long, so it has floor(bit rate × 1536 / rate) bits, in words of 16; at 44.1
+-- kHz, where that is no whole number, the odd frmsizecod has one word more
 abbrev pub frameSizeRule : ℕ → ℕ → ℕ
 frameSizeRule fscod k = ac3Kbps k * 1000 * 1536 / (getD ac3Rates fscod 0 * 16) + cond (eqb fscod 1) (k % 2) 0
 
@@ -39,7 +43,8 @@ pub ac3-kbps-rule : (k : ℕ) → k < 38 → ac3Kbps k ≡ cond (leb k 33) (quar
 unfolding ac3Kbps
 ac3-kbps-rule = agree 38 ac3Kbps (λ (k : ℕ). cond (leb k 33) (quarters (k / 2)) (512 + 64 * (k / 2 - 16))) tt
 
--- Table 5.8 as front and surround channels; Table 5.2's cmixlev stands where three are in front, its surmixlev where there is a surround
+-- Table 5.8 as front and surround channels; Table 5.2's cmixlev stands where three are in front, its surmixlev where
+-- there is a surround
 abbrev pub front : ℕ → ℕ
 front acmod = getD (2 ∷ 1 ∷ 2 ∷ 3 ∷ 2 ∷ 3 ∷ 2 ∷ 3 ∷ []) acmod 0
 
@@ -72,19 +77,43 @@ bitRateRule layer index =
     (cond (eqb layer 2) (cond (eqb index 1) 32 (quarters index))
     (quarters (index - 1)))
 
-pub bit-rate-rule : (layer index : ℕ) → layer < 3 → index < 14 → mpegKbps 1 (layer + 1) (index + 1) ≡ bitRateRule (layer + 1) (index + 1)
+pub bit-rate-rule : (layer index : ℕ) → layer < 3 → index < 14
+    → mpegKbps 1 (layer + 1) (index + 1) ≡ bitRateRule (layer + 1) (index + 1)
 unfolding mpegKbps
 bit-rate-rule = agree-rows 3 14 (λ (i k : ℕ). mpegKbps 1 (i + 1) (k + 1)) (λ (i k : ℕ). bitRateRule (i + 1) (k + 1)) tt
 
--- and of 13818-3: Layer I as Layer II above up to 128, then by 16, from 192 on by 32; Layers II and III by 8 up to 64, then by 16
+-- and of 13818-3: Layer I as Layer II above up to 128, then by 16, from 192 on by 32; Layers II and III by 8 up to 64,
+-- then by 16
 abbrev pub lowBitRateRule : ℕ → ℕ → ℕ
 lowBitRateRule layer index =
     cond (eqb layer 3) (cond (leb index 8) (bitRateRule 2 index) (cond (leb index 12) (16 * index) (32 * index - 192)))
     (cond (leb index 8) (8 * index) (16 * index - 64))
 
-pub low-bit-rate-rule : (layer index : ℕ) → layer < 3 → index < 14 → mpegKbps 0 (layer + 1) (index + 1) ≡ lowBitRateRule (layer + 1) (index + 1)
+pub low-bit-rate-rule : (layer index : ℕ) → layer < 3 → index < 14
+    → mpegKbps 0 (layer + 1) (index + 1) ≡ lowBitRateRule (layer + 1) (index + 1)
 unfolding mpegKbps
-low-bit-rate-rule = agree-rows 3 14 (λ (i k : ℕ). mpegKbps 0 (i + 1) (k + 1)) (λ (i k : ℕ). lowBitRateRule (i + 1) (k + 1)) tt
+low-bit-rate-rule = agree-rows 3 14 (λ (i k : ℕ). mpegKbps 0 (i + 1) (k + 1))
+    (λ (i k : ℕ). lowBitRateRule (i + 1) (k + 1)) tt
+
+-- a frame's factor: the samples for each channel by the bits of a slot, 384 / 32, 1152 / 8 and 576 / 8. So its slots
+-- are those that the bits of so many samples fill, floor(samples × bit rate / (rate × bits a slot))
+abbrev pub slotBits : Layer → ℕ
+slotBits l = l .slot * 8
+
+pub factor-rule : map (λ (l : Layer). l .factor * slotBits l) (layer1 ∷ layer2 ∷ layer3 ∷ lowLayer3 ∷ []) ≡ map
+    (λ (l : Layer). l .samples) (layer1 ∷ layer2 ∷ layer3 ∷ lowLayer3 ∷ [])
+factor-rule = refl
+
+pub slots-rule : (l : Layer) → 0 < l .slot → l .factor * slotBits l ≡ l .samples → (bits rate : ℕ)
+    → l .factor * bits / rate ≡ l .samples * bits / (rate * slotBits l)
+slots-rule l some e bits rate =
+    rw (
+      ← e,
+      mul-assoc (l .factor) (slotBits l) bits,
+      mul-comm (slotBits l) bits,
+      ← mul-assoc (l .factor) bits (slotBits l),
+    )
+    (sym (mul-div-mul-right (l .factor * bits) rate (omega arith)))
 
 -- 13818-3's sampling frequencies are half of 11172-3's, which stand in Table 35 of 13818-7 too
 pub low-rate-rule : (k : ℕ) → k < 3 → mpegRate 0 k ≡ mpegRate 1 k / 2
@@ -97,7 +126,8 @@ mpeg-rate-rule = agree 3 (mpegRate 1) (λ (k : ℕ). getD adtsRates (getD (4 ∷
 
 -- Table 35: three rates, halved with each further three; Table 42: as many as the code, but for 8 at 7
 pub adts-rate-rule : (k : ℕ) → k < 12 → getD adtsRates k 0 ≡ getD (96000 ∷ 88200 ∷ 64000 ∷ []) (k % 3) 0 / 2 ^ (k / 3)
-adts-rate-rule = agree 12 (λ (k : ℕ). getD adtsRates k 0) (λ (k : ℕ). getD (96000 ∷ 88200 ∷ 64000 ∷ []) (k % 3) 0 / 2 ^ (k / 3)) tt
+adts-rate-rule = agree 12 (λ (k : ℕ). getD adtsRates k 0)
+    (λ (k : ℕ). getD (96000 ∷ 88200 ∷ 64000 ∷ []) (k % 3) 0 / 2 ^ (k / 3)) tt
 
 pub adts-channel-rule : (k : ℕ) → k < 8 → getD adtsChannels k 0 ≡ cond (eqb k 7) 8 k
 adts-channel-rule = agree 8 (λ (k : ℕ). getD adtsChannels k 0) (λ (k : ℕ). cond (eqb k 7) 8 k) tt

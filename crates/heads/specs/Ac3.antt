@@ -13,8 +13,8 @@ use Rattle.heads.specs.declared.info.Refusal.the-variants.{ShortHead, Re
 use Rattle.heads.specs.declared.info.AudioFrameKind.the-variants.{Ac3}
 use Rattle.heads.specs.declared.info.BitRate.the-variants.{Coded}
 
--- Table 5.2: cmixlev is there where acmod is odd and not 1 (three front channels), surmixlev where it has its 4 (a surround channel),
--- dsurmod where it is 2 (2/0); one that is left out has no bits
+-- Table 5.2: cmixlev is there where acmod is odd and not 1 (three front channels), surmixlev where it has its 4 (a
+-- surround channel), dsurmod where it is 2 (2/0); one that is left out has no bits
 unfoldable pub cmixlevBits : ℕ → ℕ
 cmixlevBits acmod = cond (eqb (acmod % 2) 1 && not (eqb acmod 1)) 2 0
 
@@ -69,8 +69,8 @@ ac3Named l =
 abbrev pub acmodOf : ℕ → ℕ
 acmodOf n = n / 2 ^ 5 % 2 ^ 3
 
--- the fields of the first seven bytes; of a head of six, the seventh counts as 0, and what is judged before it is asked for stands in
--- the six
+-- the fields of the first seven bytes; of a head of six, the seventh counts as 0, and what is judged before it is asked
+-- for stands in the six
 abbrev pub ac3Fields : List ℕ → Ac3Fields
 ac3Fields b = ac3Named (unpack (ac3Widths (acmodOf (number 7 b))) (number 7 b))
 

@@ -1,4 +1,5 @@
--- Bit fields, as the standards' syntax tables list them: the first field in the highest bits, each later one in the next.
+-- Bit fields, as the standards' syntax tables list them: the first field in the highest bits, each later one in the
+-- next.
 use Prim.Native.Nat.{ℕ, zero, suc, _+_, _*_, _/_, _%_, _^_, _<_}
 use mathlib.Core.List.{List, [], _∷_}
 use lib.ListN.{getD}

@@ -12,3 +12,4 @@ pub mod Sync
 pub mod Promise
 pub mod Duration
 pub mod Host
+pub mod Order

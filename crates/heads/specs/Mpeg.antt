@@ -11,6 +11,7 @@ use Rattle.heads.specs.declared.mpeg.MpegShape.{MpegShape}
 use Rattle.heads.specs.declared.info.Head.{Head}
 use Rattle.heads.specs.declared.info.Head.the-variants.{Read}
 use Rattle.heads.specs.declared.info.Refusal.the-variants.{ShortHead, NoSyncWord, Unsupported, ReservedCode, BitRateIndex}
+use Rattle.heads.specs.declared.info.AudioFrameKind.{AudioFrameKind}
 use Rattle.heads.specs.declared.info.AudioFrameKind.the-variants.{MpegLayer1, MpegLayer2, MpegLayer3}
 use Rattle.heads.specs.declared.info.BitRate.the-variants.{Coded}
 
@@ -127,23 +128,44 @@ lowRates = 22050 ∷ 24000 ∷ 16000 ∷ []
 unfoldable pub mpegRate : ℕ → ℕ → ℕ
 mpegRate ID index = cond (eqb ID 1) (getD mpegRates index 0) (getD lowRates index 0)
 
--- length, samples and kind by layer. Layer I: floor(12 × bit rate / rate) slots of four bytes, and one more if padded; Layer II: 144, in
--- slots of one byte; Layer III the same, or 72 and 576 samples for ID 0
-abbrev pub layer1Shape : ℕ → ℕ → ℕ → MpegShape
-layer1Shape rate bits padding = record { «frame_len» = 12 * bits / rate * 4 + padding * 4; samples = 384; kind = MpegLayer1 }
+-- what a layer's frame is made of: its kind, the samples for each channel, the bytes of a slot, and by how much the bit
+-- rate is multiplied for the number of slots
+pub record Layer : Type 0 where
+  pub kind : AudioFrameKind
+  pub samples : ℕ
+  pub slot : ℕ
+  pub factor : ℕ
 
-abbrev pub layer2Shape : ℕ → ℕ → ℕ → MpegShape
-layer2Shape rate bits padding = record { «frame_len» = 144 * bits / rate + padding; samples = 1152; kind = MpegLayer2 }
+abbrev layer : AudioFrameKind → ℕ → ℕ → ℕ → Layer
+layer k s b f = record { kind = k; samples = s; slot = b; factor = f }
+
+-- Layer I counts in slots of four bytes, the others in bytes; Layer III has half the samples at the lower sampling
+-- frequencies (ID 0)
+abbrev pub layer1 : Layer
+layer1 = layer MpegLayer1 384 4 12
+
+abbrev pub layer2 : Layer
+layer2 = layer MpegLayer2 1152 1 144
+
+abbrev pub layer3 : Layer
+layer3 = layer MpegLayer3 1152 1 144
+
+abbrev pub lowLayer3 : Layer
+lowLayer3 = layer MpegLayer3 576 1 72
+
+-- floor(factor × bit rate / rate) slots, and one more if padded
+abbrev pub shaped : Layer → ℕ → ℕ → ℕ → MpegShape
+shaped l rate bits padding =
+    record { «frame_len» = l .factor * bits / rate * l .slot + padding * l .slot; samples = l .samples; kind = l .kind }
 
 unfoldable pub layer3Shape : ℕ → ℕ → ℕ → ℕ → MpegShape
 layer3Shape ID rate bits padding =
-    cond (eqb ID 1) (record { «frame_len» = 144 * bits / rate + padding; samples = 1152; kind = MpegLayer3 })
-    (record { «frame_len» = 72 * bits / rate + padding; samples = 576; kind = MpegLayer3 })
+    cond (eqb ID 1) (shaped layer3 rate bits padding) (shaped lowLayer3 rate bits padding)
 
 unfoldable pub mpegShape : ℕ → ℕ → ℕ → ℕ → ℕ → MpegShape
 mpegShape ID layer rate bits padding =
-    cond (eqb layer 3) (layer1Shape rate bits padding)
-    (cond (eqb layer 2) (layer2Shape rate bits padding)
+    cond (eqb layer 3) (shaped layer1 rate bits padding)
+    (cond (eqb layer 2) (shaped layer2 rate bits padding)
     (layer3Shape ID rate bits padding))
 
 -- mode 3, single_channel, is one channel
@@ -172,7 +194,8 @@ mpegJudged f =
     (refuseIf (eqb (f .«bitrate_index») 0) BitRateIndex
     (refuseIf (eqb (f .«bitrate_index») 15) BitRateIndex
     (refuseIf (eqb (f .«sampling_frequency») 3) ReservedCode
-    (mpegRead (mpegShape (f .id) (f .layer) rate (kbps * 1000) (f .«padding_bit»)) kbps rate (mpegChannels (f .mode)))))))
+    (mpegRead (mpegShape (f .id) (f .layer) rate (kbps * 1000) (f .«padding_bit»)) kbps rate
+    (mpegChannels (f .mode)))))))
 
 -- 1 before all of them
 unfoldable pub mpegHead : List ℕ → Head

@@ -1,5 +1,9 @@
--- Document 01's numbers: of the kinds of frames, of a bit rate that may be absent, and of the refusals.
+-- Document 01's numbers: of the kinds of frames, of a bit rate that may be absent, and of the refusals; and the answer
+-- of a head, its number and its values, which the record for C, the front of a row and the line of a program are made
+-- from.
 use Prim.Native.Nat.{ℕ}
+use mathlib.Core.List.{List, [], _∷_}
+use Rattle.heads.specs.declared.info.AudioFrameInfo.{AudioFrameInfo}
 use Rattle.heads.specs.declared.info.AudioFrameKind.{AudioFrameKind}
 use Rattle.heads.specs.declared.info.AudioFrameKind.the-variants.{Ac3, Eac3, MpegLayer1, MpegLayer2, MpegLayer3, AacAdts}
 use Rattle.heads.specs.declared.info.BitRate.{BitRate}
@@ -33,7 +37,37 @@ refusalNumber BitRateIndex = 5
 refusalNumber FrameLength = 6
 refusalNumber SyntaxCode = 7
 
--- 0 for a head that reads, or the refusal's number
-abbrev pub headNumber : Head → ℕ
-headNumber (Read info) = 0
-headNumber (Refused ground) = refusalNumber ground
+-- ---- the answer of a head
+
+-- the six values of a frame, each as a number
+pub record Values : Type 0 where
+  pub kind : ℕ
+  pub length : ℕ
+  pub samples : ℕ
+  pub rate : ℕ
+  pub channels : ℕ
+  pub bits : ℕ
+
+abbrev pub valuesOf : AudioFrameInfo → Values
+valuesOf i =
+    record {
+      kind = kindNumber (i .kind);
+      length = i .«frame_len»;
+      samples = i .«samples_per_frame»;
+      rate = i .«sample_rate»;
+      channels = i .channels;
+      bits = bitRateNumber (i .«bit_rate»);
+    }
+
+-- 'kind, length, samples, rate, channels, bit rate or 0'
+abbrev pub inOrder : Values → List ℕ
+inOrder v = v .kind ∷ v .length ∷ v .samples ∷ v .rate ∷ v .channels ∷ v .bits ∷ []
+
+-- 0 and the values of a head that reads, or the refusal's number and no values
+pub record HeadAnswer : Type 0 where
+  pub number : ℕ
+  pub values : List ℕ
+
+abbrev pub headAnswer : Head → HeadAnswer
+headAnswer (Read i) = record { number = 0; values = inOrder (valuesOf i) }
+headAnswer (Refused ground) = record { number = refusalNumber ground; values = [] }

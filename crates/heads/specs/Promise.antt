@@ -1,7 +1,6 @@
 -- What the layers above may count on, for the syntax as a parameter. The laws themselves are in proofs/Promise.antt.
 use Prim.Native.Nat.{ℕ, _≤_}
-use Rattle.heads.specs.Numbers.{bitRateNumber}
-use Rattle.heads.specs.declared.info.AudioFrameInfo.{AudioFrameInfo}
+use Rattle.heads.specs.Numbers.{Values}
 use Rattle.heads.specs.declared.info.Head.{Head}
 use Rattle.heads.specs.declared.info.Head.the-variants.{Read, Refused}
 use Rattle.heads.specs.declared.syntax.AudioSyntax.{AudioSyntax}
@@ -21,7 +20,7 @@ infixl 20 _to_
 abbrev pub _to_ : ℕ → ℕ → Range
 _to_ a b = record { least = a; greatest = b }
 
--- the numbers of a frame, each in its range; the bit rate as a number, 0 where none is coded
+-- the ranges of a frame's values
 pub record Bounds : Type 0 where
   pub lengths : Range
   pub samples : Range
@@ -60,9 +59,10 @@ pub record In (r : Range) (n : ℕ) : Type 0 where
   pub above : r .least ≤ n
   pub below : n ≤ r .greatest
 
-pub record Within (n : Bounds) (i : AudioFrameInfo) : Type 0 where
-  pub length-in : In (n .lengths) (i .«frame_len»)
-  pub samples-in : In (n .samples) (i .«samples_per_frame»)
-  pub rate-in : In (n .rates) (i .«sample_rate»)
-  pub channels-in : In (n .channels) (i .channels)
-  pub bits-in : In (n .bits) (bitRateNumber (i .«bit_rate»))
+-- the values of a head that reads lie within them
+pub record Within (n : Bounds) (v : Values) : Type 0 where
+  pub length-in : In (n .lengths) (v .length)
+  pub samples-in : In (n .samples) (v .samples)
+  pub rate-in : In (n .rates) (v .rate)
+  pub channels-in : In (n .channels) (v .channels)
+  pub bits-in : In (n .bits) (v .bits)

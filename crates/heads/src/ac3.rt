@@ -2,6 +2,7 @@
 ghost use mathlib.Core.Path.{_≡_};
 ghost use Prim.Native.Nat.{_≤_, _<_, _+_};
 ghost use lib.ListN.{length, getD};
+ghost use Rattle.heads.specs.Numbers.{headAnswer};
 ghost use Rattle.heads.specs.Ac3.{ac3Fields, ac3Judged, ac3Words, ac3Kbps, nfchans, cmixlevBits, surmixlevBits, dsurmodBits, mixBits};
 ghost use Rattle.heads.specs.Eac3.{eac3Fields, eac3Judged, eac3Read};
 ghost use Rattle.heads.specs.A52.{a52Head};
@@ -181,6 +182,7 @@ const EAC3_BLOCKS: [u32; 4] = [1, 2, 3, 6];
 // The head of an AC-3 or E-AC-3 syncframe. bsid stands in the same bits of both and tells them apart.
 pub fn parse_ac3_frame(b: &[u8]) -> Head
     ensures { λ r. ⌜ r ≡ a52Head (now (b .entry)) ⌝ }
+    ensures { λ r. ⌜ headAnswer r ≡ headAnswer (a52Head (now (b .entry))) ⌝ }
 {
     if b.len() < 6 {
         return Head::Refused(Refusal::ShortHead);
@@ -206,8 +208,9 @@ fn ac3_frame(b: &[u8]) -> Head
 {
     let fscod = (b[4] >> 6) as usize;
     let frmsizecod = (b[4] % 64) as usize;
-    if fscod == 3 {
-        return Head::Refused(Refusal::ReservedCode);
+    match fscod {
+        3 => return Head::Refused(Refusal::ReservedCode),
+        _ => {}
     }
     if frmsizecod >= 38 {
         return Head::Refused(Refusal::ReservedCode);
@@ -244,8 +247,8 @@ fn ac3_frame_words(fscod: usize, frmsizecod: usize) -> u16
     }
 }
 
-// An entry of a column of Table 5.18. A column by value is laid out by a few wide stores, where three of them indexed in the
-// arms of one match would be laid out number by number.
+// An entry of a column of Table 5.18. A column by value is laid out by a few wide stores, where three of them indexed
+// in the arms of one match would be laid out number by number.
 fn entry(column: [u16; 38], frmsizecod: usize) -> u16
     requires { ⌜ frmsizecod < 38 ⌝ }
     ensures { λ r. ⌜ r ≡ getD column frmsizecod 0 ⌝ }

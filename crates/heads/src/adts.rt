@@ -1,5 +1,6 @@
 // ADTS, ISO/IEC 13818-7.
 ghost use mathlib.Core.Path.{_≡_};
+ghost use Rattle.heads.specs.Numbers.{headAnswer};
 ghost use Rattle.heads.specs.Adts.{adtsHead, adtsHeaderLength};
 use crate::info::AudioFrameInfo;
 use crate::info::AudioFrameKind;
@@ -32,6 +33,7 @@ const AAC_SAMPLES_PER_BLOCK: u32 = 1024;
 // An ADTS head, Tables 8 and 9.
 pub fn parse_adts_header(b: &[u8]) -> Head
     ensures { λ r. ⌜ r ≡ adtsHead (now (b .entry)) ⌝ }
+    ensures { λ r. ⌜ headAnswer r ≡ headAnswer (adtsHead (now (b .entry))) ⌝ }
 {
     if b.len() < 7 {
         return Head::Refused(Refusal::ShortHead);
@@ -43,8 +45,9 @@ pub fn parse_adts_header(b: &[u8]) -> Head
         return Head::Refused(Refusal::NoSyncWord);
     }
     let layer = (b[1] >> 1) % 4;
-    if layer != 0 {
-        return Head::Refused(Refusal::Unsupported);
+    match layer {
+        0 => {}
+        _ => return Head::Refused(Refusal::Unsupported),
     }
     let protection_absent = b[1] % 2;
     let sf_index = ((b[2] >> 2) % 16) as usize;

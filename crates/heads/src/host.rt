@@ -4,26 +4,39 @@ ghost use Prim.Native.Nat.{_≤_, _+_};
 ghost use mathlib.Core.List.{_++_};
 ghost use lib.ListN.{length, take, drop};
 ghost use Rattle.heads.specs.Duration.{duration90k};
-ghost use Rattle.heads.specs.Host.{le32, infoBytes, hostNumber, hostBytes};
+ghost use Rattle.heads.specs.Numbers.{valuesOf, inOrder};
+ghost use Rattle.heads.specs.Host.{le32, allLe32, recordSize, numberOf, bytesOf, hostNumber, hostBytes};
 use crate::info::AudioFrameInfo;
 use crate::info::Head;
 use crate::info::ticks_90k;
-use crate::syntax::parse_head;
+use crate::syntax::AudioSyntax;
+use crate::syntax::CodedSyntax;
 
-// A head by syntax code: 0 and its six numbers in the first 24 bytes of out, or the refusal's number with out as it was. In order:
-// 7 for the code, 12 for too short an out, then the reader's own.
+// The bytes of a head's six numbers.
+const RECORD_LEN: usize = 24;
+
+// A head by syntax code: 0 and its six numbers in the first 24 bytes of out, or the refusal's number with out as it
+// was. In order: 7 for the code, 12 for too short an out, then the reader's own.
 #[no_mangle]
 pub extern "C" fn audio_frame_head(code: u32, b: &[u8], out: &mut [u8]) -> u32
     ensures { λ r. ⌜ r ≡ hostNumber code (now (b .entry)) (length (now (out .entry))) ⌝ }
     ensures { λ _. ⌜ now (out .exit) ≡ hostBytes code (now (b .entry)) (now (out .entry)) ⌝ }
 {
-    if code > 2 {
-        return 7;
+    match AudioSyntax::from_code(code) {
+        CodedSyntax::Known(syntax) => put_head(syntax, b, out),
+        CodedSyntax::Refused(refusal) => refusal.number(),
     }
-    if out.len() < 24 {
+}
+
+// A head of that syntax: 12, then the reader's own.
+fn put_head(syntax: AudioSyntax, b: &[u8], out: &mut [u8]) -> u32
+    ensures { λ r. ⌜ r ≡ numberOf syntax (now (b .entry)) (length (now (out .entry))) ⌝ }
+    ensures { λ _. ⌜ now (out .exit) ≡ bytesOf syntax (now (b .entry)) (now (out .entry)) ⌝ }
+{
+    if out.len() < RECORD_LEN {
         return 12;
     }
-    match parse_head(code, b) {
+    match syntax.parse(b) {
         Head::Read(info) => {
             put_info(out, info);
             0
@@ -42,8 +55,8 @@ pub extern "C" fn audio_frame_duration_90k(samples: u32, rate: u32) -> u32
 
 // Kind, length, samples, rate, channels, bit rate or 0.
 fn put_info(out: &mut [u8], info: AudioFrameInfo)
-    requires { ⌜ 24 ≤ length (now out) ⌝ }
-    ensures { λ _. ⌜ now (out .exit) ≡ infoBytes info ++ drop 24 (now (out .entry)) ⌝ }
+    requires { ⌜ recordSize ≤ length (now out) ⌝ }
+    ensures { λ _. ⌜ now (out .exit) ≡ allLe32 (inOrder (valuesOf info)) ++ drop recordSize (now (out .entry)) ⌝ }
 {
     let kind = info.kind;
     let bit_rate = info.bit_rate;

@@ -1,6 +1,7 @@
 // MPEG audio, ISO/IEC 11172-3 and, with ID 0, the lower sampling frequencies of 13818-3.
 ghost use mathlib.Core.Path.{_≡_};
 ghost use Prim.Native.Nat.{_≤_, _<_, _*_, _/_};
+ghost use Rattle.heads.specs.Numbers.{headAnswer};
 ghost use Rattle.heads.specs.Mpeg.{mpegHead, mpegKbps, mpegRate, mpegShape, layer3Shape, mpegChannels};
 use crate::info::AudioFrameInfo;
 use crate::info::AudioFrameKind;
@@ -8,7 +9,8 @@ use crate::info::BitRate;
 use crate::info::Head;
 use crate::info::Refusal;
 
-// 11172-3 §2.4.2.3, bit rate in kbit/s for ID 1 by layer (I, II, III) and bitrate_index. 0 is free format, 15 forbidden.
+// 11172-3 §2.4.2.3, bit rate in kbit/s for ID 1 by layer (I, II, III) and bitrate_index. 0 is free format, 15
+// forbidden.
 const MPEG1_BITRATE_KBPS: [[u16; 16]; 3] = [
     [
         0,
@@ -119,9 +121,11 @@ pub struct MpegShape {
     pub kind: AudioFrameKind,
 }
 
-// An MPEG audio head, header() of 11172-3 §2.4.1.3. Free format is refused, since such a head does not say the frame's length.
+// An MPEG audio head, header() of 11172-3 §2.4.1.3. Free format is refused, since such a head does not say the frame's
+// length.
 pub fn parse_mpeg_audio_header(b: &[u8]) -> Head
     ensures { λ r. ⌜ r ≡ mpegHead (now (b .entry)) ⌝ }
+    ensures { λ r. ⌜ headAnswer r ≡ headAnswer (mpegHead (now (b .entry))) ⌝ }
 {
     if b.len() < 4 {
         return Head::Refused(Refusal::ShortHead);
@@ -138,8 +142,9 @@ pub fn parse_mpeg_audio_header(b: &[u8]) -> Head
     let sf_index = ((b[2] >> 2) % 4) as usize;
     let padding = ((b[2] >> 1) % 2) as usize;
     let mode = b[3] >> 6;
-    if layer_code == 0 {
-        return Head::Refused(Refusal::Unsupported);
+    match layer_code {
+        0 => return Head::Refused(Refusal::Unsupported),
+        _ => {}
     }
     if bitrate_index == 0 {
         return Head::Refused(Refusal::BitRateIndex); // free format

@@ -24,8 +24,8 @@ fn either(a: bool, b: bool) -> bool
     if a { true } else { b }
 }
 
-// Whether a head can begin at some place of t, with u the bytes one further on. No way out before the end, so that it compiles
-// to wide comparisons.
+// Whether a head can begin at some place of t, with u the bytes one further on. No way out before the end, so that it
+// compiles to wide comparisons.
 fn any_begins(t: &[u8], u: &[u8], first: u8, low: u8, high: u8) -> bool
     requires { ⌜ length (now t) ≤ length (now u) ⌝ }
     ensures { λ r. ⌜ (r ≡ false → Clear first low high (now (t .entry)) (now (u .entry)) (length (now (t .entry)))) ⌝ }

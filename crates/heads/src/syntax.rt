@@ -1,5 +1,6 @@
 // The three syntaxes, and reading by syntax code.
 ghost use mathlib.Core.Path.{_≡_};
+ghost use Rattle.heads.specs.Numbers.{headAnswer};
 ghost use Rattle.heads.specs.Syntax.{syntaxOf, headOf, needOf, headOfCode};
 ghost use Rattle.heads.specs.Sync.{syncPlace};
 use crate::ac3::parse_ac3_frame;
@@ -41,6 +42,7 @@ impl AudioSyntax {
     // The head at the front of b.
     pub fn parse(self, b: &[u8]) -> Head
         ensures { λ r. ⌜ r ≡ headOf self (now (b .entry)) ⌝ }
+        ensures { λ r. ⌜ headAnswer r ≡ headAnswer (headOf self (now (b .entry))) ⌝ }
     {
         match self {
             AudioSyntax::Ac3 => parse_ac3_frame(b),
@@ -60,8 +62,8 @@ impl AudioSyntax {
         }
     }
 
-    // The first place whose two bytes can begin a head: no head reads at a place before it. The last byte, which has no second,
-    // is not passed.
+    // The first place whose two bytes can begin a head: no head reads at a place before it. The last byte, which has no
+    // second, is not passed.
     pub fn skip_to_sync(self, b: &[u8]) -> usize
         ensures { λ r. ⌜ r ≡ syncPlace self (now (b .entry)) ⌝ }
     {
@@ -76,6 +78,7 @@ impl AudioSyntax {
 // The head of the syntax with that code; an unknown code is refused before the bytes are looked at.
 pub fn parse_head(code: u32, b: &[u8]) -> Head
     ensures { λ r. ⌜ r ≡ headOfCode code (now (b .entry)) ⌝ }
+    ensures { λ r. ⌜ headAnswer r ≡ headAnswer (headOfCode code (now (b .entry))) ⌝ }
 {
     match AudioSyntax::from_code(code) {
         CodedSyntax::Known(syntax) => syntax.parse(b),

@@ -22,18 +22,18 @@ cast-frmsizecod c = search needs
 
 returns : tie.Need-returns
 unfolding ac3Judged
-returns c = search (judged, known, grounds, c .before .before .before .shared-slice-known .given) depth 12
+returns c = search (judged, known, grounds, c .before .shared-slice-known3 .given) depth 12
 
 returns-2 : tie.Need-returns-2
 unfolding ac3Judged
-returns-2 c = search (judged, known, grounds, c .before .before .before .before .shared-slice-known .given) depth 12
+returns-2 c = search (judged, known, grounds, c .before .before .shared-slice-known3 .given) depth 12
 
 ac3-frame-words-requires : tie.Need-ac3-frame-words-requires
 ac3-frame-words-requires c κs = search needs
 
 returns-3 : tie.Need-returns-3
 unfolding ac3Judged
-returns-3 c = search (judged, known, grounds, c .before .before .before .before .before .before .shared-slice-known .given) depth 12
+returns-3 c = search (judged, known, grounds, c .before .before .before .before .shared-slice-known3 .given) depth 12
 
 shared-slice-read-acmod : tie.Need-shared-slice-read-acmod
 shared-slice-read-acmod c = search needs
@@ -57,7 +57,7 @@ shr-lfeon : tie.Need-shr-lfeon
 shr-lfeon c = search needs
 
 coded-channels-requires : tie.Need-coded-channels-requires
-coded-channels-requires c κs = omega (arith, c .before .before .before .before .before .before .before .before .before .shared-slice-known .given 6)
+coded-channels-requires c κs = omega (arith, c .before .shared-slice-known5 .given 6)
 
 cast-frame-len : tie.Need-cast-frame-len
 cast-frame-len c = search needs
@@ -66,10 +66,10 @@ mul-frame-len : tie.Need-mul-frame-len
 mul-frame-len c = search needs
 
 mul-sample-rate : tie.Need-mul-sample-rate
-mul-sample-rate c = omega (arith, c .before .before .before .before .before .before .before .before .before .before .shared-slice-known .given 4)
+mul-sample-rate c = omega (arith, c .before .before .shared-slice-known5 .given 4)
 
 array-read-sample-rate : tie.Need-array-read-sample-rate
-array-read-sample-rate c = omega (arith, c .before .before .before .before .before .before .before .before .before .before .shared-slice-known .given 4)
+array-read-sample-rate c = omega (arith, c .before .before .shared-slice-known5 .given 4)
 
 ac3-kbps-requires : tie.Need-ac3-kbps-requires
 ac3-kbps-requires c κs = search needs
@@ -82,7 +82,7 @@ mul-bit-rate c = search needs
 
 returns-4 : tie.Need-returns-4
 unfolding ac3Judged
-returns-4 c = search (judged, known, grounds, reported, c .before .before .before .before .before .before .before .before .before .before .before .shared-slice-known .given) depth 12
+returns-4 c = search (judged, known, grounds, reported, c .before .before .before .shared-slice-known5 .given) depth 12
 
 pub ac3-frame-spec : {M : Type 1} → statement M
 ac3-frame-spec =

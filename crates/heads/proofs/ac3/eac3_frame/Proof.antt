@@ -50,13 +50,13 @@ coded-channels-requires : tie.Need-coded-channels-requires
 coded-channels-requires c κs = search needs
 
 add-frame-len : tie.Need-add-frame-len
-add-frame-len c = omega (arith, c .before .before .before .before .before .before .before .shared-slice-known .given 3)
+add-frame-len c = omega (arith, c .before .shared-slice-known7 .given 3)
 
 mul-frame-len : tie.Need-mul-frame-len
-mul-frame-len c = omega (arith, c .before .before .before .before .before .before .before .shared-slice-known .given 3)
+mul-frame-len c = omega (arith, c .before .shared-slice-known7 .given 3)
 
 returns : tie.Need-returns
-returns c = search (halved, known, grounds, c .before .before .before .before .before .before .before .before .before .shared-slice-known .given) depth 10
+returns c = search (halved, known, grounds, c .before .before .before .shared-slice-known7 .given) depth 10
 
 mul-sample-rate : tie.Need-mul-sample-rate
 mul-sample-rate c = search needs
@@ -74,19 +74,25 @@ array-read-blocks : tie.Need-array-read-blocks
 array-read-blocks c = search needs
 
 mul-sample-rate-2 : tie.Need-mul-sample-rate-2
-mul-sample-rate-2 c = omega (arith, c .before .before .before .before .before .before .before .before .shared-slice-known .given 4)
+mul-sample-rate-2 c = omega (arith, c .before .before .shared-slice-known7 .given 4)
 
 array-read-sample-rate-2 : tie.Need-array-read-sample-rate-2
-array-read-sample-rate-2 c = omega (arith, c .before .before .before .before .before .before .before .before .shared-slice-known .given 4)
+array-read-sample-rate-2 c = omega (arith, c .before .before .shared-slice-known7 .given 4)
 
 eac3-read-requires-2 : tie.Need-eac3-read-requires-2
 eac3-read-requires-2 c κs = search grounds
 
 returns-2 : tie.Need-returns-2
-returns-2 c = search (halved, told, known, grounds, c .before .before .before .before .before .before .before .before .before .before .shared-slice-known .given) depth 10
+returns-2 c = search (
+  halved,
+  told,
+  known,
+  grounds,
+  c .before .before .before .before .shared-slice-known7 .given,
+) depth 10
 
 returns-3 : tie.Need-returns-3
-returns-3 c = search (whole, told, known, grounds, c .before .before .before .before .before .before .before .before .before .shared-slice-known .given) depth 10
+returns-3 c = search (whole, told, known, grounds, c .before .before .before .shared-slice-known7 .given) depth 10
 
 pub eac3-frame-spec : {M : Type 1} → statement M
 eac3-frame-spec =

@@ -1,5 +1,5 @@
 -- `parse_ac3_frame` meets its contract. Assumes nothing.
-use Rattle.heads.proofs.Grounds.{grounds}
+use Rattle.heads.proofs.Grounds.{answered, grounds}
 use Rattle.heads.proofs.SyncWord.{sync-words}
 use Rattle.heads.proofs.A52Laws.{short, chosen}
 use Rattle.heads.specs.A52.{byBsid}
@@ -8,7 +8,7 @@ use Rattle.heads.proofs.ac3.parse_ac3_frame.Statement.{statement}
 use Rattle.heads.proofs.ac3.parse_ac3_frame.Tie as tie
 
 returns : tie.Need-returns
-returns c = search short
+returns c = answered (search short)
 
 shared-slice-read-if2 : tie.Need-shared-slice-read-if2
 shared-slice-read-if2 c = search needs
@@ -18,7 +18,7 @@ array-read-if2 c = search needs
 
 returns-2 : tie.Need-returns-2
 unfolding byBsid
-returns-2 c = search (chosen, sync-words, grounds, c .before .before .before .shared-slice-known .given) depth 14
+returns-2 c = answered (search (chosen, sync-words, grounds, c .before .shared-slice-known2 .given) depth 14)
 
 shared-slice-read-if3 : tie.Need-shared-slice-read-if3
 shared-slice-read-if3 c = search needs
@@ -28,7 +28,7 @@ array-read-if3 c = search needs
 
 returns-3 : tie.Need-returns-3
 unfolding byBsid
-returns-3 c = search (chosen, sync-words, grounds, c .before .before .before .before .before .shared-slice-known .given) depth 14
+returns-3 c = answered (search (chosen, sync-words, grounds, c .before .shared-slice-known3 .given) depth 14)
 
 shared-slice-read-bsid : tie.Need-shared-slice-read-bsid
 shared-slice-read-bsid c = search needs
@@ -41,19 +41,29 @@ eac3-frame-requires c κs = search needs
 
 returns-4 : tie.Need-returns-4
 unfolding byBsid
-returns-4 c = search (chosen, sync-words, grounds, c .before .before .before .before .before .before .before .before .shared-slice-known .given) depth 14
+returns-4 c = answered (search (chosen, sync-words, grounds, c .before .before .shared-slice-known4 .given) depth 14)
 
 returns-5 : tie.Need-returns-5
 unfolding byBsid
-returns-5 c = search (chosen, sync-words, grounds, c .before .before .before .before .before .before .before .before .before .before .shared-slice-known .given) depth 14
+returns-5 c = answered (search (
+  chosen,
+  sync-words,
+  grounds,
+  c .before .before .before .before .shared-slice-known4 .given,
+) depth 14)
 
 returns-6 : tie.Need-returns-6
 unfolding byBsid
-returns-6 c = search (chosen, sync-words, grounds, c .before .before .before .before .before .before .before .before .shared-slice-known .given) depth 14
+returns-6 c = answered (search (chosen, sync-words, grounds, c .before .before .shared-slice-known4 .given) depth 14)
 
 returns-7 : tie.Need-returns-7
 unfolding byBsid
-returns-7 c = search (chosen, sync-words, grounds, c .before .before .before .before .before .before .before .before .before .shared-slice-known .given) depth 14
+returns-7 c = answered (search (
+  chosen,
+  sync-words,
+  grounds,
+  c .before .before .before .shared-slice-known4 .given,
+) depth 14)
 
 pub parse-ac3-frame-spec : {M : Type 1} → statement M
 parse-ac3-frame-spec =

@@ -48,7 +48,8 @@ returns c =
     let at = p1 .before .before .before .before .args in
     six (at .info) _ _ (at .out .now) _ _ _ _ _ _
     (p1 .before .number .ensures) (p6 .before .number2 .ensures)
-    (p1 .put-u32 .ensures) (p2 .put-u322 .ensures) (p3 .put-u323 .ensures) (p4 .put-u324 .ensures) (p5 .put-u325 .ensures) (p6 .put-u326 .ensures)
+    (p1 .put-u32 .ensures) (p2 .put-u322 .ensures) (p3 .put-u323 .ensures) (p4 .put-u324 .ensures)
+    (p5 .put-u325 .ensures) (p6 .put-u326 .ensures)
 
 pub put-info-spec : {M : Type 1} → statement M
 put-info-spec =

@@ -70,7 +70,12 @@ returns-4 c = search (grounds, of-rates (λ (r : BitRates). r .layer1) lowBitRat
 
 returns-5 : tie.Need-returns-5
 unfolding mpegKbps
-returns-5 c = search (grounds, either-is, of-rates (λ (r : BitRates). r .layer2) lowBitRates, of-rates (λ (r : BitRates). r .layer3) lowBitRates) depth 12
+returns-5 c = search (
+  grounds,
+  either-is,
+  of-rates (λ (r : BitRates). r .layer2) lowBitRates,
+  of-rates (λ (r : BitRates). r .layer3) lowBitRates,
+) depth 12
 
 pub mpeg-kbps-spec : {M : Type 1} → statement M
 mpeg-kbps-spec =

@@ -1,6 +1,7 @@
 -- `parse_mpeg_audio_header` meets its contract. Assumes nothing.
 use native.Mathlib.Omega.{arith}
-use Rattle.heads.proofs.Grounds.{grounds}
+use Rattle.heads.proofs.Grounds.{answered, grounds, pass}
+use Rattle.heads.proofs.Bytes.{known}
 use Rattle.heads.proofs.SyncWord.{sync-words}
 use Rattle.heads.proofs.MpegLaws.{short, judged, reported}
 use Rattle.heads.specs.Mpeg.{mpegJudged}
@@ -9,21 +10,21 @@ use Rattle.heads.proofs.mpeg.parse_mpeg_audio_header.Statement.{stateme
 use Rattle.heads.proofs.mpeg.parse_mpeg_audio_header.Tie as tie
 
 returns : tie.Need-returns
-returns c = search short
+returns c = answered (search short)
 
 shared-slice-read-if2 : tie.Need-shared-slice-read-if2
 shared-slice-read-if2 c = search needs
 
 returns-2 : tie.Need-returns-2
 unfolding mpegJudged
-returns-2 c = search (judged, sync-words, grounds, c .before .before .before .shared-slice-known .given) depth 16
+returns-2 c = answered (search (judged, sync-words, grounds, c .before .shared-slice-known2 .given) depth 16)
 
 shared-slice-read-if3 : tie.Need-shared-slice-read-if3
 shared-slice-read-if3 c = search needs
 
 returns-3 : tie.Need-returns-3
 unfolding mpegJudged
-returns-3 c = search (judged, sync-words, grounds, c .before .before .before .before .before .shared-slice-known .given) depth 16
+returns-3 c = answered (search (judged, sync-words, grounds, c .before .shared-slice-known3 .given) depth 16)
 
 shared-slice-read-id : tie.Need-shared-slice-read-id
 shared-slice-read-id c = search needs
@@ -54,22 +55,32 @@ shared-slice-read-mode c = search needs
 
 returns-4 : tie.Need-returns-4
 unfolding mpegJudged
-returns-4 c = search (judged, sync-words, grounds, c .before .before .before .before .before .before .before .before .before .before .before .before .shared-slice-known .given) depth 16
+returns-4 c = answered (search (judged, sync-words, grounds, c .before .shared-slice-known9 .given) depth 16)
 
 returns-5 : tie.Need-returns-5
 unfolding mpegJudged
-returns-5 c = search (judged, sync-words, grounds, c .before .before .before .before .before .before .before .before .before .before .before .before .before .shared-slice-known .given) depth 16
+returns-5 c = answered (search (judged, sync-words, grounds, c .before .before .shared-slice-known9 .given) depth 16)
 
 returns-6 : tie.Need-returns-6
 unfolding mpegJudged
-returns-6 c = search (judged, sync-words, grounds, c .before .before .before .before .before .before .before .before .before .before .before .before .before .before .shared-slice-known .given) depth 16
+returns-6 c = answered (search (
+  judged,
+  sync-words,
+  grounds,
+  c .before .before .before .shared-slice-known9 .given,
+) depth 16)
 
 returns-7 : tie.Need-returns-7
 unfolding mpegJudged
-returns-7 c = search (judged, sync-words, grounds, c .before .before .before .before .before .before .before .before .before .before .before .before .before .before .before .shared-slice-known .given) depth 16
+returns-7 c = answered (search (
+  judged,
+  sync-words,
+  grounds,
+  c .before .before .before .before .shared-slice-known9 .given,
+) depth 16)
 
 mpeg-kbps-requires : tie.Need-mpeg-kbps-requires
-mpeg-kbps-requires c κs = omega (arith, c .before .before .before .before .before .before .before .before .before .before .before .before .before .before .before .shared-slice-known .given 2)
+mpeg-kbps-requires c κs = omega (arith, c .before .before .before .before .shared-slice-known9 .given 2)
 
 cast-bitrate : tie.Need-cast-bitrate
 cast-bitrate c = search needs
@@ -88,7 +99,15 @@ mpeg-channels-requires c κs = search needs
 
 returns-8 : tie.Need-returns-8
 unfolding mpegJudged
-returns-8 c = search (judged, sync-words, grounds, reported, c .before .before .before .before .before .before .before .before .before .before .before .before .before .before .before .before .before .before .before .shared-slice-known .given) depth 16
+returns-8 c =
+    let byte = c .before .before .before .before .before .before .before .before .shared-slice-known9 .given in
+    answered (judged _ (known _ byte) _ (search needs)
+    (pass _ _ _ _ (search (sync-words, grounds, byte) depth 8)
+    (pass _ _ _ _ (search grounds)
+    (pass _ _ _ _ (search grounds)
+    (pass _ _ _ _ (search grounds)
+    (pass _ _ _ _ (search grounds)
+    (search reported)))))))
 
 pub parse-mpeg-audio-header-spec : {M : Type 1} → statement M
 parse-mpeg-audio-header-spec =

@@ -11,7 +11,8 @@ use Rattle.heads.proofs.mpeg.slots.Tie as tie
 product : (c : tie.Start) → c .args .slots-per-frame * c .args .bitrate ≤ 64512000
 product c = mul-le-mul (c .pre .0) (c .pre .1)
 
-quotient : (c : tie.Start) → c .args .slots-per-frame * c .args .bitrate / c .args .sample-rate ≤ c .args .slots-per-frame * c .args .bitrate
+quotient : (c : tie.Start)
+    → c .args .slots-per-frame * c .args .bitrate / c .args .sample-rate ≤ c .args .slots-per-frame * c .args .bitrate
 quotient c = div-le-self (c .args .slots-per-frame * c .args .bitrate) (c .args .sample-rate)
 
 mul-result : tie.Need-mul-result

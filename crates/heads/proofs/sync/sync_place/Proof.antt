@@ -72,8 +72,13 @@ loop-less c = omega arith
 loop-again : tie.Need-loop-again Inv-loop μ-loop Inv-loop2 μ-loop2
 loop-again c =
     let l = c .before .before .before .before .before in
-    let a = l .before .before .before .args in
-    (omega arith, omega arith, silent-block (a .first) (a .low) (a .high) (a .b .now) (l .loop .at) (l .loop .at + 32 - l .loop .at) (l .loop .at + 33 - (l .loop .at + 1)) (omega arith) (omega arith) (omega arith) (l .loop .inv .2) (c .before .any-begins .ensures (c .if2 .left)))
+    let a = l .before .before .before .args in (
+      omega arith,
+      omega arith,
+      silent-block (a .first) (a .low) (a .high) (a .b .now) (l .loop .at) (l .loop .at + 32 - l .loop .at)
+          (l .loop .at + 33 - (l .loop .at + 1)) (omega arith) (omega arith) (omega arith) (l .loop .inv .2)
+          (c .before .any-begins .ensures (c .if2 .left)),
+    )
 
 loop2-holds : tie.Need-loop2-holds Inv-loop μ-loop Inv-loop2 μ-loop2
 loop2-holds c = (omega arith, omega arith, c .before .loop .inv .2)
@@ -99,20 +104,26 @@ loop2-less c = omega arith
 loop2-again : tie.Need-loop2-again Inv-loop μ-loop Inv-loop2 μ-loop2
 loop2-again c =
     let l = c .before .before .before .before .before in
-    let a = l .before .before .before .before .before .args in
-    (omega arith, omega arith, silent-more (a .first) (a .low) (a .high) (a .b .now) (l .loop2 .at) (l .loop2 .inv .2) (sym (c .before .begins .ensures) ∙ c .if3 .left))
+    let a = l .before .before .before .before .before .args in (
+      omega arith,
+      omega arith,
+      silent-more (a .first) (a .low) (a .high) (a .b .now) (l .loop2 .at) (l .loop2 .inv .2)
+          (sym (c .before .begins .ensures) ∙ c .if3 .left),
+    )
 
 returns-2 : tie.Need-returns-2 Inv-loop μ-loop Inv-loop2 μ-loop2
 returns-2 c =
     let l = c .before in
     let a = l .before .before .before .before .before .args in
-    place-is (a .first) (a .low) (a .high) (a .b .now) (l .loop2 .at) (omega arith) (l .loop2 .inv .2) (λ h. absurd (let no : ⊥ = omega arith in no))
+    place-is (a .first) (a .low) (a .high) (a .b .now) (l .loop2 .at) (omega arith) (l .loop2 .inv .2)
+    (λ h. absurd (let no : ⊥ = omega arith in no))
 
 returns-3 : tie.Need-returns-3 Inv-loop μ-loop Inv-loop2 μ-loop2
 returns-3 c =
     let l = c .before .before .before .before .before in
     let a = l .before .before .before .before .before .args in
-    place-is (a .first) (a .low) (a .high) (a .b .now) (l .loop2 .at) (omega arith) (l .loop2 .inv .2) (λ h. rw (add-one (l .loop2 .at)) at (sym (c .before .begins .ensures) ∙ c .if3 .taken))
+    place-is (a .first) (a .low) (a .high) (a .b .now) (l .loop2 .at) (omega arith) (l .loop2 .inv .2)
+    (λ h. rw (add-one (l .loop2 .at)) at (sym (c .before .begins .ensures) ∙ c .if3 .taken))
 
 pub sync-place-spec : {M : Type 1} → statement M
 sync-place-spec =

@@ -1,5 +1,6 @@
 -- `parse_head` meets its contract. Assumes nothing.
 use Rattle.heads.proofs.SyntaxLaws.{by-code, no-code}
+use Rattle.heads.proofs.Grounds.{answered}
 use borrow.Author.Needs.{needs}
 use Rattle.heads.proofs.syntax.parse_head.Statement.{statement}
 use Rattle.heads.proofs.syntax.parse_head.Tie as tie
@@ -17,10 +18,10 @@ enum-known-refusal : tie.Need-enum-known-refusal
 enum-known-refusal c = search needs
 
 returns : tie.Need-returns
-returns c = search by-code
+returns c = answered (search by-code)
 
 returns-2 : tie.Need-returns-2
-returns-2 c = search no-code
+returns-2 c = answered (search no-code)
 
 pub parse-head-spec : {M : Type 1} → statement M
 parse-head-spec =

@@ -1,5 +1,6 @@
 -- `parse` meets its contract. Assumes nothing.
 use Rattle.heads.proofs.SyntaxLaws.{as-ac3, as-mpeg, as-adts}
+use Rattle.heads.proofs.Grounds.{answered}
 use borrow.Author.Needs.{needs}
 use Rattle.heads.proofs.syntax.AudioSyntax.parse.Statement.{statement}
 use Rattle.heads.proofs.syntax.AudioSyntax.parse.Tie as tie
@@ -23,13 +24,13 @@ parse-adts-header-requires : tie.Need-parse-adts-header-requires
 parse-adts-header-requires c κs = search needs
 
 returns : tie.Need-returns
-returns c = search as-ac3
+returns c = answered (search as-ac3)
 
 returns-2 : tie.Need-returns-2
-returns-2 c = search as-mpeg
+returns-2 c = answered (search as-mpeg)
 
 returns-3 : tie.Need-returns-3
-returns-3 c = search as-adts
+returns-3 c = answered (search as-adts)
 
 pub parse-spec : {M : Type 1} → statement M
 parse-spec =
