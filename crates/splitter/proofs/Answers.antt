@@ -1,10 +1,13 @@
--- Tests and answers told apart: what two of them that are equal say of each other. Assumes nothing.
-use mathlib.Core.Path.{_≡_, refl}
+-- Tests, answers and outcomes told apart: what two of them that are equal say of each other. Assumes nothing.
+use mathlib.Core.Path.{_≡_, refl, ap}
 use mathlib.Core.Bool.{Bool, true, false, _||_}
+use mathlib.Core.List.{List}
 use Prim.Native.Nat.{ℕ, suc}
 use native.Mathlib.Omega.{arith}
-use Rattle.splitter.specs.Answer.{refused, done}
-use Rattle.splitter.specs.Push.{firstOf}
+use lib.IntN.{ℤ}
+use Rattle.splitter.specs.Answer.{Answer, refused, done}
+use Rattle.splitter.specs.Push.{Outcome, outcome, firstOf}
+use Rattle.splitter.specs.declared.state.AudioFrameSplitter.{AudioFrameSplitter}
 
 -- ---- tests
 
@@ -37,3 +40,21 @@ rows-said t u r b p q e = cc
 
 pub bytes-said : (t u : Bool) (r b p q : ℕ) → done t r b ≡ done u p q → b ≡ q
 bytes-said t u r b p q e = cc
+
+-- ---- outcomes
+
+module _ {o : Outcome} {a : Answer} {s : AudioFrameSplitter} {b u : List ℕ} {r : List ℤ} where
+  -- an outcome is what its fields are
+  pub outcome-of : a ≡ o .answer → s ≡ o .state → b ≡ o .pend → u ≡ o .out → r ≡ o .rows → outcome a s b u r ≡ o
+  outcome-of p q h k l = λ j. record { answer = p j; state = q j; pend = h j; out = k j; rows = l j }
+
+  -- and so are the fields
+  pub outcome-fields : outcome a s b u r ≡ o
+      → (a ≡ o .answer) × (s ≡ o .state) × (b ≡ o .pend) × (u ≡ o .out) × (r ≡ o .rows)
+  outcome-fields e = (
+    ap (λ (x : Outcome). x .answer) e,
+    ap (λ (x : Outcome). x .state) e,
+    ap (λ (x : Outcome). x .pend) e,
+    ap (λ (x : Outcome). x .out) e,
+    ap (λ (x : Outcome). x .rows) e,
+  )

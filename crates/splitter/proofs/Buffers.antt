@@ -1,5 +1,5 @@
--- Lists as lent buffers: what a buffer holds while its front is written and after, parts of it that come back, and the parts of the
--- joined bytes. Assumes nothing.
+-- Lists as lent buffers: what a buffer holds while its front is written and after, parts of it that come back, and the
+-- parts of the joined bytes. Assumes nothing.
 use mathlib.Core.Path.{_≡_, refl, sym, _∙_, ap, subst}
 use mathlib.Core.List.{List, [], _∷_, _++_, append-assoc, append-nil}
 use Prim.Native.Nat.{ℕ, suc, _+_, _-_, _≤_, _<_, _^_}
@@ -28,7 +28,8 @@ module _ {ℓ} {A : Type ℓ} (xs ys : List A) (i : ℕ) where
       ∙ rw (add-one, take-suc xs i d, append-assoc)
 
   -- a store of the next element
-  pub front-next : (zs : List A) (d : A) → i < length xs → i < length ys → zs ≡ front i xs ys → set zs i (getD xs i d) ≡ front (i + 1) xs ys
+  pub front-next : (zs : List A) (d : A) → i < length xs → i < length ys → zs ≡ front i xs ys
+      → set zs i (getD xs i d) ≡ front (i + 1) xs ys
   front-next zs d hx hy e = ap (λ (l : List A). set l i (getD xs i d)) e ∙ front-step d hx hy
 
   -- past the front the old elements stand
@@ -43,7 +44,8 @@ module _ {ℓ} {A : Type ℓ} (xs ys : List A) (i : ℕ) where
   front-until h = ap (λ (k : ℕ). take i xs ++ drop k ys) (sym (length-take-le i xs h))
 
 -- the next element of a copy down: its place isn't written yet
-pub down-next {ℓ} : {A : Type ℓ} (i from : ℕ) (ys zs : List A) (d : A) → from + i < length ys → zs ≡ front i (drop from ys) ys
+pub down-next {ℓ} : {A : Type ℓ} (i from : ℕ) (ys zs : List A) (d : A) → from + i < length ys
+    → zs ≡ front i (drop from ys) ys
     → set zs i (getD zs (from + i) d) ≡ front (i + 1) (drop from ys) ys
 down-next {A = A} i from ys zs d h e =
     let l : i < length (drop from ys) = simp length-drop (omega arith) in
@@ -64,23 +66,33 @@ module _ {ℓ} {A : Type ℓ} where
   over-same k ys h = sym (front-until ys ys k h) ∙ take-append-drop k ys
 
   -- the part from a place on, moved to the front, where the place is the front
-  pub in-place : (from k : ℕ) (ys zs : List A) → from ≡ 0 → zs ≡ ys → k ≤ length ys → zs ≡ over (take k (drop from ys)) ys
+  pub in-place : (from k : ℕ) (ys zs : List A) → from ≡ 0 → zs ≡ ys → k ≤ length ys
+      → zs ≡ over (take k (drop from ys)) ys
   in-place from k ys zs e z h = z ∙ sym (rw e (over-same k ys h))
 
   -- t written after s, on a list whose front is s
-  pub over-after : (k : ℕ) (s t ys : List A) → length s ≡ k → take k (over s ys) ++ over t (drop k (over s ys)) ≡ over (s ++ t) ys
+  pub over-after : (k : ℕ) (s t ys : List A) → length s ≡ k
+      → take k (over s ys) ++ over t (drop k (over s ys)) ≡ over (s ++ t) ys
   over-after k s t ys e =
-      rw (take-at s (drop (length s) ys) k e, drop-at s (drop (length s) ys) k e, drop-drop, append-assoc, length-append)
+      rw (
+        take-at s (drop (length s) ys) k e,
+        drop-at s (drop (length s) ys) k e,
+        drop-drop,
+        append-assoc,
+        length-append,
+      )
 
   pub over-length : (s ys : List A) → length s ≤ length ys → length (over s ys) ≡ length ys
   over-length s ys h = simp (length-append, length-drop) (omega arith)
 
   -- the first m of xs were written, and then the last n of xs, from a place among those m on
-  pub last-block : (m at n : ℕ) (xs ys zs : List A) → at ≤ m → m ≤ length xs → length xs ≡ at + n → zs ≡ over (take m xs) ys
+  pub last-block : (m at n : ℕ) (xs ys zs : List A) → at ≤ m → m ≤ length xs → length xs ≡ at + n
+      → zs ≡ over (take m xs) ys
       → take at zs ++ (take n (drop at xs) ++ drop (at + n) zs) ≡ over xs ys
   last-block m at n xs ys zs a h e z =
       let l : length (take m xs) ≡ m = length-take-le m xs h in
-      let p : take at zs ≡ take at xs = ap (take at) z ∙ take-append-le at (take m xs) (drop (length (take m xs)) ys) (omega arith) ∙ take-take at m xs a in
+      let p : take at zs ≡ take at xs = ap (take at) z ∙ take-append-le at (take m xs) (drop (length (take m xs)) ys)
+      (omega arith) ∙ take-take at m xs a in
       let q : take n (drop at xs) ≡ drop at xs = take-all n (drop at xs) (simp length-drop (omega arith)) in
       let k : at + n ≡ length (take m xs) + (at + n - m) = omega arith in
       let b : length (take m xs) + (at + n - m) ≡ length xs = omega arith in
@@ -90,20 +102,24 @@ module _ {ℓ} {A : Type ℓ} where
       ∙ drop-append-add (take m xs) (drop (length (take m xs)) ys) (at + n - m)
       ∙ drop-drop (at + n - m) (length (take m xs)) ys
       ∙ ap (λ (j : ℕ). drop j ys) b in
-      rw (p, q, r) (sym (append-assoc (take at xs) (drop at xs) (drop (length xs) ys)) ∙ ap (λ (j : List A). j ++ drop (length xs) ys) (take-append-drop at xs))
+      rw (p, q, r) (sym (append-assoc (take at xs) (drop at xs) (drop (length xs) ys)) ∙ ap
+      (λ (j : List A). j ++ drop (length xs) ys) (take-append-drop at xs))
 
   -- a store of the next element of a block, and the whole block
   pub paste-next : (at k : ℕ) (xs ys zs : List A) (d : A) → at + k < length ys → k < length xs → zs ≡ paste ys at xs k
       → set zs (at + k) (getD xs k d) ≡ paste ys at xs (k + 1)
-  paste-next at k xs ys zs d hy hx e = ap (λ (l : List A). set l (at + k) (getD xs k d)) e ∙ rw add-one (paste-suc ys at xs k d hy hx)
+  paste-next at k xs ys zs d hy hx e =
+      ap (λ (l : List A). set l (at + k) (getD xs k d)) e ∙ rw add-one (paste-suc ys at xs k d hy hx)
 
-  pub paste-all : (at n : ℕ) (xs ys : List A) → length xs ≡ n → paste ys at xs n ≡ take at ys ++ (xs ++ drop (at + n) ys)
+  pub paste-all : (at n : ℕ) (xs ys : List A) → length xs ≡ n
+      → paste ys at xs n ≡ take at ys ++ (xs ++ drop (at + n) ys)
   paste-all at n xs ys e =
       append-assoc (take at ys) (take n xs) (drop (at + n) ys)
       ∙ ap (λ (l : List A). take at ys ++ (l ++ drop (at + n) ys)) (take-all n xs (omega arith))
 
 -- one more byte of a part that is read from a place on
-pub part-next {ℓ} : {A : Type ℓ} (at k : ℕ) (xs zs : List A) (d : A) → at + k < length xs → k < length zs → take k zs ≡ take k (drop at xs)
+pub part-next {ℓ} : {A : Type ℓ} (at k : ℕ) (xs zs : List A) (d : A) → at + k < length xs → k < length zs
+    → take k zs ≡ take k (drop at xs)
     → take (k + 1) (set zs k (getD xs (at + k) d)) ≡ take (k + 1) (drop at xs)
 part-next {A = A} at k xs zs d hx hz e =
     let l : k < length (drop at xs) = simp length-drop (omega arith) in
@@ -118,15 +134,18 @@ part-next {A = A} at k xs zs d hx hz e =
 -- a part from a place to the end
 pub put-tail : {A : Type 0} (a : ℕ) (xs ys : List A) → a ≤ length xs → putMid a (length xs - a) xs ys ≡ take a xs ++ ys
 put-tail {A} a xs ys h =
-    let e : drop (length xs - a) (drop a xs) ≡ [] = drop-drop (length xs - a) a xs ∙ drop-of-length-le xs {i = a + (length xs - a)} (omega arith) in
+    let e : drop (length xs - a) (drop a xs) ≡ [] = drop-drop (length xs - a) a xs
+    ∙ drop-of-length-le xs {i = a + (length xs - a)} (omega arith) in
     ap (λ (l : List A). take a xs ++ (ys ++ l)) e ∙ ap (λ (l : List A). take a xs ++ l) (append-nil ys)
 
 -- a part from a place to the end, written at its front: what came before stays as it stands
-pub write-after : {A : Type 0} (k : ℕ) (t xs zs : List A) → k ≤ length xs → zs ≡ over t (take (length xs - k) (drop k xs))
+pub write-after : {A : Type 0} (k : ℕ) (t xs zs : List A) → k ≤ length xs
+    → zs ≡ over t (take (length xs - k) (drop k xs))
     → putMid k (length xs - k) xs zs ≡ take k xs ++ over t (drop k xs)
 write-after {A} k t xs zs h z =
     put-tail k xs zs h
-    ∙ ap (λ (m : List A). take k xs ++ m) (z ∙ ap (over t) (take-all (length xs - k) (drop k xs) (simp length-drop (omega arith))))
+    ∙ ap (λ (m : List A). take k xs ++ m)
+    (z ∙ ap (over t) (take-all (length xs - k) (drop k xs) (simp length-drop (omega arith))))
 
 -- the same where the front was written before
 pub two-writes : {A : Type 0} (k : ℕ) (s t ys xs zs : List A) → length s ≡ k → k ≤ length xs → xs ≡ over s ys
@@ -155,7 +174,8 @@ module _ {ℓ} {A : Type ℓ} (p : ℕ) (pend pay : List A) (hp : p ≤ length p
   joined-low at h =
       let e : p ≡ at + (p - at) = omega arith in
       drop-append-le at (take p pend) pay (omega (arith, length-take-le p pend hp))
-      ∙ ap (λ (l : List A). l ++ pay) (ap (λ (n : ℕ). drop at (take n pend)) e ∙ drop-take at (p - at) pend (omega arith))
+      ∙ ap (λ (l : List A). l ++ pay)
+      (ap (λ (n : ℕ). drop at (take n pend)) e ∙ drop-take at (p - at) pend (omega arith))
 
   -- a part that lies in the payload, one that lies in the pending bytes, and one that lies in both
   pub slice-high : (at n : ℕ) → p ≤ at → take n (drop at (take p pend ++ pay)) ≡ take n (drop (at - p) pay)
@@ -163,14 +183,17 @@ module _ {ℓ} {A : Type ℓ} (p : ℕ) (pend pay : List A) (hp : p ≤ length p
 
   pub slice-low : (at n : ℕ) → at + n ≤ p → take n (drop at (take p pend ++ pay)) ≡ take n (drop at pend)
   slice-low at n h =
-      let l : length (take (p - at) (drop at pend)) ≡ p - at = length-take-le (p - at) (drop at pend) (simp length-drop (omega arith)) in
+      let l : length (take (p - at) (drop at pend)) ≡ p - at = length-take-le (p - at) (drop at pend)
+      (simp length-drop (omega arith)) in
       ap (take n) (joined-low at (omega arith))
       ∙ take-append-le n (take (p - at) (drop at pend)) pay (omega arith)
       ∙ take-take n (p - at) (drop at pend) (omega arith)
 
-  pub slice-mid : (at n : ℕ) → at ≤ p → p ≤ at + n → take n (drop at (take p pend ++ pay)) ≡ take (p - at) (drop at pend) ++ take (n - (p - at)) pay
+  pub slice-mid : (at n : ℕ) → at ≤ p → p ≤ at + n
+      → take n (drop at (take p pend ++ pay)) ≡ take (p - at) (drop at pend) ++ take (n - (p - at)) pay
   slice-mid at n h g =
-      let l : length (take (p - at) (drop at pend)) ≡ p - at = length-take-le (p - at) (drop at pend) (simp length-drop (omega arith)) in
+      let l : length (take (p - at) (drop at pend)) ≡ p - at = length-take-le (p - at) (drop at pend)
+      (simp length-drop (omega arith)) in
       let e : n ≡ length (take (p - at) (drop at pend)) + (n - (p - at)) = omega arith in
       ap (take n) (joined-low at h)
       ∙ ap (λ (k : ℕ). take k (take (p - at) (drop at pend) ++ pay)) e
@@ -187,12 +210,14 @@ module _ {ℓ} {A : Type ℓ} where
   pub writing-none : (l whole : List A) → Writing 0 l l whole whole
   writing-none l whole = record { split = refl; past = refl; same = refl }
 
-  pub writing-more : (n : ℕ) (now first t rest whole : List A) → Writing n now first (t ++ rest) whole → n + length t ≤ length now
+  pub writing-more : (n : ℕ) (now first t rest whole : List A) → Writing n now first (t ++ rest) whole
+      → n + length t ≤ length now
       → Writing (n + length t) (take n now ++ over t (drop n now)) first rest whole
   writing-more n now first t rest whole w h =
       let l : length (take n now) ≡ n = length-take-le n now (omega arith) in
       let e : take n now ++ over t (drop n now) ≡ (take n now ++ t) ++ drop (n + length t) now =
-      ap (λ (z : List A). take n now ++ (t ++ z)) (drop-drop (length t) n now) ∙ sym (append-assoc (take n now) t (drop (n + length t) now)) in
+      ap (λ (z : List A). take n now ++ (t ++ z)) (drop-drop (length t) n now) ∙ sym
+      (append-assoc (take n now) t (drop (n + length t) now)) in
       let k : length (take n now ++ t) ≡ n + length t = rw length-append (omega arith) in
       record {
         split =
@@ -209,11 +234,13 @@ module _ {ℓ} {A : Type ℓ} where
         same =
             ap length e
             ∙ length-append (take n now ++ t) (drop (n + length t) now)
-            ∙ (let q : length (take n now ++ t) + length (drop (n + length t) now) ≡ length now = rw length-drop (omega arith) in q)
+            ∙ (let q : length (take n now ++ t) + length (drop (n + length t) now) ≡ length now = rw length-drop
+            (omega arith) in q)
             ∙ w .same;
       }
 
-  pub writing-done : (n : ℕ) (now first whole : List A) → n ≤ length now → Writing n now first [] whole → now ≡ over whole first
+  pub writing-done : (n : ℕ) (now first whole : List A) → n ≤ length now → Writing n now first [] whole
+      → now ≡ over whole first
   writing-done n now first whole h w =
       let a : take n now ≡ whole = sym (append-nil (take n now)) ∙ w .split in
       let k : n ≡ length whole = sym (length-take-le n now h) ∙ ap length a in
@@ -225,7 +252,8 @@ module _ {ℓ} {A : Type ℓ} where
 
 -- eight stores, one after the other
 pub eight : {A : Type 0} (xs : List A) (a b c d e f g h : A) → 8 ≤ length xs
-    → set (set (set (set (set (set (set (set xs 0 a) 1 b) 2 c) 3 d) 4 e) 5 f) 6 g) 7 h ≡ over (a ∷ b ∷ c ∷ d ∷ e ∷ f ∷ g ∷ h ∷ []) xs
+    → set (set (set (set (set (set (set (set xs 0 a) 1 b) 2 c) 3 d) 4 e) 5 f) 6 g) 7 h ≡ over
+    (a ∷ b ∷ c ∷ d ∷ e ∷ f ∷ g ∷ h ∷ []) xs
 eight xs a b c d e f g h l = sets-eq (a ∷ b ∷ c ∷ d ∷ e ∷ f ∷ g ∷ h ∷ []) xs 0 l
 
 -- a number of 32 bits, as a signed one of 64

@@ -1,5 +1,5 @@
--- One call: its clauses, its refusals, and whether it takes its payload. Of what the stamping rule keeps it says only what numbers 8 and 11
--- ask. Assumes nothing.
+-- One call: its clauses, its refusals, and whether it takes its payload. Of what the stamping rule keeps it says only
+-- what numbers 8 and 11 ask. Assumes nothing.
 use mathlib.Core.Path.{_≡_, refl}
 use mathlib.Core.Bool.{Bool, true, false, _||_}
 use mathlib.Core.List.{List, _∷_}
@@ -11,6 +11,7 @@ use borrow.Author.Tests.{lt-ltb, le-ltb}
 use Rattle.heads.specs.Syntax.{headOf, syntaxOf}
 use Rattle.heads.specs.declared.syntax.AudioSyntax.{AudioSyntax}
 use Rattle.heads.specs.declared.syntax.CodedSyntax.the-variants.{Known}
+use Rattle.splitter.specs.Bounds.{pendingMost, payloadMost}
 use Rattle.splitter.specs.Cut.{unread}
 use Rattle.splitter.specs.Stamp.{Frame, farPts, badTiming, manyFrames, stampCuts}
 use Rattle.splitter.specs.Answer.{refused}
@@ -21,11 +22,12 @@ use Rattle.splitter.specs.declared.state.AudioFrameSplitter.{AudioFrameS
 -- ---- the clauses
 
 module _ (x : AudioSyntax) (s : AudioFrameSplitter) (e : Event) (known : syntaxOf (s .syntax) ≡ Known x) where
-  pub push-refused : (k : ℕ) → refusal s e ≡ suc k → push s e ≡ stay (refused (suc k)) s e
+  pub push-turned : (k : ℕ) → refusal s e ≡ suc k → push s e ≡ stay (refused (suc k)) s e
   unfolding push
-  push-refused k q = rw (known, q)
+  push-turned k q = rw (known, q)
 
-  pub push-taken : refusal s e ≡ 0 → admits x s (e .payload) ≡ true → push s e ≡ finish s e (cutsBy x s e) (stampCuts (s .pending) (clockOf s e) (cutsBy x s e))
+  pub push-taken : refusal s e ≡ 0 → admits x s (e .payload) ≡ true
+      → push s e ≡ finish s e (cutsBy x s e) (stampCuts (s .pending) (clockOf s e) (cutsBy x s e))
   unfolding push
   push-taken q a = rw (known, q, a)
 
@@ -38,23 +40,26 @@ module _ (A : List (List ℕ)) (x : ℕ) (e : Event) (es : List Event) where
   within-no k q = rw q
 
   pub owed-yes : (code : ℕ) (F : List Frame) → limit (length (tailAt A x)) e ≡ 0
-      → owed code A F x (e ∷ es) ≡ seenTaken code A x e (part (whole A x) (whole A (x + length (e .payload))) F) ∷ owed code A F (x + length (e .payload)) es
+      → owed code A F x (e ∷ es) ≡ seenTaken code A x e
+      (part (whole A x) (whole A (x + length (e .payload))) F) ∷ owed code A F (x + length (e .payload)) es
   owed-yes code F q = rw q
 
-  pub owed-no : (code : ℕ) (F : List Frame) (k : ℕ) → limit (length (tailAt A x)) e ≡ suc k → owed code A F x (e ∷ es) ≡ seenRefused code A x (suc k) e ∷ owed code A F x es
+  pub owed-no : (code : ℕ) (F : List Frame) (k : ℕ) → limit (length (tailAt A x)) e ≡ suc k
+      → owed code A F x (e ∷ es) ≡ seenRefused code A x (suc k) e ∷ owed code A F x es
   owed-no code F k q = rw q
 
 -- ---- the refusals: 8 and 11 never come
 
-pub refusal-is-limit : (s : AudioFrameSplitter) (e : Event) → s .pending ≤ 8190 → badTiming (s .timing) ≡ false → manyFrames (s .timing) ≡ false → s .discarded ≡ 0
+pub refusal-is-limit : (s : AudioFrameSplitter) (e : Event) → s .pending ≤ pendingMost → badTiming (s .timing) ≡ false
+    → manyFrames (s .timing) ≡ false → s .discarded ≡ 0
     → refusal s e ≡ limit (s .pending) e
 unfolding refusalOf badState badCount limit
-refusal-is-limit s e b c d z = rw (le-ltb 8190 (s .pending) b, c, d, z)
+refusal-is-limit s e b c d z = rw (le-ltb pendingMost (s .pending) b, c, d, z)
 
 -- a timestamp within the limits
 pub limit-time : (k : ℕ) (e : Event) → limit k e ≡ 0 → farPts (e .time) ≡ false
 unfolding limit
-limit-time k e q = go (ltb 65535 (length (e .payload))) (farPts (e .time)) (tight k e) q
+limit-time k e q = go (ltb payloadMost (length (e .payload))) (farPts (e .time)) (tight k e) q
   where
     go : (a b c : Bool) → firstOf a 9 (firstOf b 10 (firstOf c 12 0)) ≡ 0 → b ≡ false
     go true b c q = absurd (let no : ⊥ = omega arith in no)

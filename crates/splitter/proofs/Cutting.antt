@@ -31,19 +31,34 @@ module _ (n : ℕ) (rd : Reader) where
   walk-short (b ∷ l) p h = rw (lt-ltb (length (b ∷ l)) n h)
 
   -- a frame that runs past the end
-  pub walk-kept : (l : List ℕ) (i : AudioFrameInfo) → 0 < length l → n ≤ length l → rd l ≡ Read i → n ≤ i .«frame_len» → length l < i .«frame_len» → walk n rd l 0 ≡ kept i l ∷ []
+  pub walk-kept : (l : List ℕ) (i : AudioFrameInfo) → 0 < length l → n ≤ length l → rd l ≡ Read i → n ≤ i .«frame_len»
+      → length l < i .«frame_len» → walk n rd l 0 ≡ kept i l ∷ []
   walk-kept [] i p h e a b = absurd (not-suc-le-zero p)
-  walk-kept (x ∷ l) i p h e a b = rw (le-ltb (length (x ∷ l)) n h, e, le-ltb (i .«frame_len») n a, lt-ltb (length (x ∷ l)) (i .«frame_len») b)
+  walk-kept (x ∷ l) i p h e a b = rw (
+    le-ltb (length (x ∷ l)) n h,
+    e,
+    le-ltb (i .«frame_len») n a,
+    lt-ltb (length (x ∷ l)) (i .«frame_len») b,
+  )
 
   -- a frame that is whole, with nothing after it that is no head
-  pub walk-given : (l : List ℕ) (i : AudioFrameInfo) → 0 < n → n ≤ length l → rd l ≡ Read i → n ≤ i .«frame_len» → i .«frame_len» ≤ length l
-      → (n ≤ length (drop (i .«frame_len») l) → unread (rd (drop (i .«frame_len») l)) ≡ false) → walk n rd l 0 ≡ given i (take (i .«frame_len») l) ∷ walk n rd (drop (i .«frame_len») l) 0
+  pub walk-given : (l : List ℕ) (i : AudioFrameInfo) → 0 < n → n ≤ length l → rd l ≡ Read i → n ≤ i .«frame_len»
+      → i .«frame_len» ≤ length l
+      → (n ≤ length (drop (i .«frame_len») l) → unread (rd (drop (i .«frame_len») l)) ≡ false)
+      → walk n rd l 0 ≡ given i (take (i .«frame_len») l) ∷ walk n rd (drop (i .«frame_len») l) 0
   walk-given [] i z h e a b s = absurd (omega arith)
   walk-given (x ∷ l) i z h e a b s =
-      rw (le-ltb (length (x ∷ l)) n h, e, le-ltb (i .«frame_len») n a, le-ltb (length (x ∷ l)) (i .«frame_len») b, synced)
+      rw (
+        le-ltb (length (x ∷ l)) n h,
+        e,
+        le-ltb (i .«frame_len») n a,
+        le-ltb (length (x ∷ l)) (i .«frame_len») b,
+        synced,
+      )
       (rw (walk-skip l (i .«frame_len» - 1), drop-pred (i .«frame_len») x l (omega arith)))
     where
-      pick : (n ≤ length (drop (i .«frame_len») (x ∷ l))) ⊎ (length (drop (i .«frame_len») (x ∷ l)) < n) → (leb n (length (x ∷ l) - i .«frame_len») && unread (rd (drop (i .«frame_len») (x ∷ l)))) ≡ false
+      pick : (n ≤ length (drop (i .«frame_len») (x ∷ l))) ⊎ (length (drop (i .«frame_len») (x ∷ l)) < n)
+          → (leb n (length (x ∷ l) - i .«frame_len») && unread (rd (drop (i .«frame_len») (x ∷ l)))) ≡ false
       pick (inl g) = rw (le-leb n (length (x ∷ l) - i .«frame_len») (rw length-drop at g), s g)
       pick (inr g) = rw (lt-leb n (length (x ∷ l) - i .«frame_len») (rw length-drop at g))
 
@@ -51,7 +66,8 @@ module _ (n : ℕ) (rd : Reader) where
       synced = pick (le-or-lt n (length (drop (i .«frame_len») (x ∷ l))))
 
   -- a byte is given up: no head reads there
-  pub walk-unread : (l : List ℕ) → 0 < n → n ≤ length l → unread (rd l) ≡ true → walk n rd l 0 ≡ lost true (getD l 0 0) ∷ walk n rd (drop 1 l) 0
+  pub walk-unread : (l : List ℕ) → 0 < n → n ≤ length l → unread (rd l) ≡ true
+      → walk n rd l 0 ≡ lost true (getD l 0 0) ∷ walk n rd (drop 1 l) 0
   walk-unread [] z h e = absurd (omega arith)
   walk-unread (x ∷ l) z h e = rw (le-ltb (length (x ∷ l)) n h) (go (rd (x ∷ l)) e)
     where
@@ -66,11 +82,20 @@ module _ (n : ℕ) (rd : Reader) where
   walk-below (x ∷ l) i z h e a = rw (le-ltb (length (x ∷ l)) n h, e, lt-ltb (i .«frame_len») n a)
 
   -- a byte is given up: what follows the frame has the need and does not read
-  pub walk-false : (l : List ℕ) (i : AudioFrameInfo) → 0 < n → n ≤ length l → rd l ≡ Read i → n ≤ i .«frame_len» → i .«frame_len» ≤ length l
-      → n ≤ length (drop (i .«frame_len») l) → unread (rd (drop (i .«frame_len») l)) ≡ true → walk n rd l 0 ≡ lost true (getD l 0 0) ∷ walk n rd (drop 1 l) 0
+  pub walk-false : (l : List ℕ) (i : AudioFrameInfo) → 0 < n → n ≤ length l → rd l ≡ Read i → n ≤ i .«frame_len»
+      → i .«frame_len» ≤ length l
+      → n ≤ length (drop (i .«frame_len») l) → unread (rd (drop (i .«frame_len») l)) ≡ true → walk n rd l 0 ≡ lost true
+      (getD l 0 0) ∷ walk n rd (drop 1 l) 0
   walk-false [] i z h e a b s u = absurd (omega arith)
   walk-false (x ∷ l) i z h e a b s u =
-      rw (le-ltb (length (x ∷ l)) n h, e, le-ltb (i .«frame_len») n a, le-ltb (length (x ∷ l)) (i .«frame_len») b, le-leb n (length (x ∷ l) - i .«frame_len») (rw length-drop at s), u)
+      rw (
+        le-ltb (length (x ∷ l)) n h,
+        e,
+        le-ltb (i .«frame_len») n a,
+        le-ltb (length (x ∷ l)) (i .«frame_len») b,
+        le-leb n (length (x ∷ l) - i .«frame_len») (rw length-drop at s),
+        u,
+      )
 
   -- the last cut: x bytes of a frame f that is longer
   abbrev pub lastIf : Bool → List ℕ → List ℕ → List Cut
@@ -99,7 +124,8 @@ module _ (n : ℕ) (rd : Reader) (some-need : 0 < n) (front : (x y : List ℕ) �
   frame-exact f w = rw (w .reads) (w .exact)
 
   -- a frame's bytes at the front
-  walk-frame : (f e : List ℕ) → Whole n rd f → (n ≤ length e → unread (rd e) ≡ false) → walk n rd (f ++ e) 0 ≡ given (infoOr (rd f)) f ∷ walk n rd e 0
+  walk-frame : (f e : List ℕ) → Whole n rd f → (n ≤ length e → unread (rd e) ≡ false)
+      → walk n rd (f ++ e) 0 ≡ given (infoOr (rd f)) f ∷ walk n rd e 0
   walk-frame f e w s = rw (take-at f e L (sym x), drop-at f e L (sym x)) at base
     where
       L : ℕ
@@ -110,45 +136,56 @@ module _ (n : ℕ) (rd : Reader) (some-need : 0 < n) (front : (x y : List ℕ) �
 
       base : walk n rd (f ++ e) 0 ≡ given (infoOr (rd f)) (take L (f ++ e)) ∷ walk n rd (drop L (f ++ e)) 0
       base =
-          walk-given n rd (f ++ e) (infoOr (rd f)) some-need (omega (arith, length-append f e, w .long)) (front f e (w .long) ∙ frame-reads f w)
+          walk-given n rd (f ++ e) (infoOr (rd f)) some-need (omega (arith, length-append f e, w .long))
+          (front f e (w .long) ∙ frame-reads f w)
           (omega (arith, x, w .long)) (omega (arith, x, length-append f e)) (rw (drop-at f e L (sym x)) s)
 
   -- what follows a frame, once it has the need, reads
-  pub next-reads : (fs : List (List ℕ)) → Each (Whole n rd) fs → (e fut : List ℕ) → e ++ fut ≡ join fs → n ≤ length e → unread (rd e) ≡ false
+  pub next-reads : (fs : List (List ℕ)) → Each (Whole n rd) fs → (e fut : List ℕ) → e ++ fut ≡ join fs → n ≤ length e
+      → unread (rd e) ≡ false
   next-reads [] g e fut q h = absurd (omega (arith, length-append e fut, ap length q))
   next-reads (f ∷ fs) g e fut q h = rw (← front e fut h, q, front f (join fs) (g .0 .long), g .0 .reads)
 
   -- a front of a frame
-  last-cut : (f : List ℕ) → Whole n rd f → (buf t : List ℕ) → f ≡ buf ++ t → length buf < length f → walk n rd buf 0 ≡ lastCut n rd f (length buf)
+  last-cut : (f : List ℕ) → Whole n rd f → (buf t : List ℕ) → f ≡ buf ++ t → length buf < length f
+      → walk n rd buf 0 ≡ lastCut n rd f (length buf)
   last-cut f w [] t q h = refl
   last-cut f w (b ∷ l) t q h = pick (le-or-lt n (length (b ∷ l)))
     where
       same : take (length (b ∷ l)) f ≡ b ∷ l
       same = ap (take (length (b ∷ l))) q ∙ take-append-seam (b ∷ l) t
 
-      pick : (n ≤ length (b ∷ l)) ⊎ (length (b ∷ l) < n) → walk n rd (b ∷ l) 0 ≡ lastIf n rd (ltb (length (b ∷ l)) n) f (take (length (b ∷ l)) f)
+      pick : (n ≤ length (b ∷ l)) ⊎ (length (b ∷ l) < n)
+          → walk n rd (b ∷ l) 0 ≡ lastIf n rd (ltb (length (b ∷ l)) n) f (take (length (b ∷ l)) f)
       pick (inl g) =
-          walk-kept n rd (b ∷ l) (infoOr (rd f)) (omega arith) g (sym (front (b ∷ l) t g) ∙ ap rd (sym q) ∙ frame-reads f w)
+          walk-kept n rd (b ∷ l) (infoOr (rd f)) (omega arith) g
+          (sym (front (b ∷ l) t g) ∙ ap rd (sym q) ∙ frame-reads f w)
           (omega (arith, frame-exact f w, w .long)) (omega (arith, frame-exact f w))
           ∙ rw (same, le-ltb (length (b ∷ l)) n g)
       pick (inr g) = walk-short n rd (b ∷ l) (omega arith) g ∙ rw (same, lt-ltb (length (b ∷ l)) n g)
 
   -- the search cuts a front of whole frames just where they end
-  pub cutting : (fs : List (List ℕ)) → Each (Whole n rd) fs → (buf fut : List ℕ) → buf ++ fut ≡ join fs → walk n rd buf 0 ≡ cutsOf n rd fs (length buf)
+  pub cutting : (fs : List (List ℕ)) → Each (Whole n rd) fs → (buf fut : List ℕ) → buf ++ fut ≡ join fs
+      → walk n rd buf 0 ≡ cutsOf n rd fs (length buf)
   cutting [] g [] fut q = refl
   cutting [] g (x ∷ buf) fut q = absurd (omega (arith, ap length q))
   cutting (f ∷ fs) g buf fut q = pick (le-or-lt (length f) (length buf)) (λ e h. cutting fs (g .1) e fut h)
     where
-      pick : (length f ≤ length buf) ⊎ (length buf < length f) → ((e : List ℕ) → e ++ fut ≡ join fs → walk n rd e 0 ≡ cutsOf n rd fs (length e)) → walk n rd buf 0 ≡ cutsOf n rd (f ∷ fs) (length buf)
+      pick : (length f ≤ length buf) ⊎ (length buf < length f)
+          → ((e : List ℕ) → e ++ fut ≡ join fs → walk n rd e 0 ≡ cutsOf n rd fs (length e))
+          → walk n rd buf 0 ≡ cutsOf n rd (f ∷ fs) (length buf)
       pick (inl h) ih =
           rw (le-leb (length f) (length buf) h)
           (ap (λ (l : List ℕ). walk n rd l 0) (front-of buf fut f (join fs) q h)
           ∙ walk-frame f e (g .0) (next-reads fs (g .1) e fut r)
-          ∙ ap (λ (cs : List Cut). given (infoOr (rd f)) f ∷ cs) (ih e r ∙ ap (cutsOf n rd fs) (length-drop (length f) buf)))
+          ∙ ap (λ (cs : List Cut). given (infoOr (rd f)) f ∷ cs)
+          (ih e r ∙ ap (cutsOf n rd fs) (length-drop (length f) buf)))
         where
           e : List ℕ
           e = drop (length f) buf
 
           r : e ++ fut ≡ join fs
           r = back-of buf fut f (join fs) q h
-      pick (inr h) ih = rw (lt-leb (length f) (length buf) h) (last-cut f (g .0) buf (drop (length buf) f) (front-of f (join fs) buf fut (sym q) (omega arith)) h)
+      pick (inr h) ih =
+          rw (lt-leb (length f) (length buf) h)
+          (last-cut f (g .0) buf (drop (length buf) f) (front-of f (join fs) buf fut (sym q) (omega arith)) h)

@@ -10,6 +10,7 @@ use Rattle.heads.specs.Syntax.{headOf, needOf}
 use Rattle.heads.specs.declared.info.AudioFrameInfo.{AudioFrameInfo}
 use Rattle.heads.specs.declared.info.Head.the-variants.{Read}
 use Rattle.heads.specs.declared.syntax.AudioSyntax.{AudioSyntax}
+use Rattle.splitter.specs.Bounds.{samplesMost}
 use Rattle.splitter.specs.Cut.{Reader}
 use Rattle.splitter.specs.Stamp.{Frame}
 use Rattle.splitter.specs.Push.{Event, rowsOf, run, final, new}
@@ -22,8 +23,8 @@ use Rattle.splitter.proofs.Main.{Owed, all-pushes}
 use Rattle.splitter.proofs.Literal.{literal, first-point}
 
 module _ (n : ℕ) (rd : Reader) where
-  samples-of : (sm rt : ℕ) → ((l : List ℕ) (i : AudioFrameInfo) → rd l ≡ Read i → i .«samples_per_frame» ≤ 4096)
-      → (A : List (List ℕ)) → 0 < length A → Each (Whole n rd) A → Each (Same rd sm rt) A → sm ≤ 4096
+  samples-of : (sm rt : ℕ) → ((l : List ℕ) (i : AudioFrameInfo) → rd l ≡ Read i → i .«samples_per_frame» ≤ samplesMost)
+      → (A : List (List ℕ)) → 0 < length A → Each (Whole n rd) A → Each (Same rd sm rt) A → sm ≤ samplesMost
   samples-of sm rt law [] h g e = absurd (let no : ⊥ = omega arith in no)
   samples-of sm rt law (f ∷ A) h g e = omega (arith, law f (g .0 .info) (g .0 .reads), rw (g .0 .reads) at (e .0 .0))
 
@@ -39,7 +40,8 @@ module _ (n : ℕ) (rd : Reader) where
   part-new p [] g = refl
   part-new p (f ∷ A) g = omega (arith, g .0 .long)
 
-pub demand3 : (code : ℕ) (x : AudioSyntax) (sm rt : ℕ) (A : List (List ℕ)) (evs : List Event) → Given3 code x sm rt A evs → Meets3 code x A evs
+pub demand3 : (code : ℕ) (x : AudioSyntax) (sm rt : ℕ) (A : List (List ℕ)) (evs : List Event)
+    → Given3 code x sm rt A evs → Meets3 code x A evs
 demand3 code x sm rt A evs h =
     record {
       each-push = N .each-push ∙ ap (λ (F : List Frame). owed code A F 0 evs) same;
@@ -58,11 +60,17 @@ demand3 code x sm rt A evs h =
 
     same : stampedRun (headOf x) A evs ≡ stamped (headOf x) A evs
     same =
-        literal (headOf x) (λ j i. stampFrom (pointOf A 0 (within A 0 evs) none j) j i) A (solid-of (needOf x) (headOf x) some-need A (h .whole-frames)) (within A 0 evs)
+        literal (headOf x) (λ j i. stampFrom (pointOf A 0 (within A 0 evs) none j) j i) A
+        (solid-of (needOf x) (headOf x) some-need A (h .whole-frames)) (within A 0 evs)
         (h .joins) (λ j i. refl)
 
     b : Basis (headOf x)
-    b = record { sm = sm; rt = rt; samples-ok = samples-of (needOf x) (headOf x) sm rt (samples-most x) A (h .some-frame) (h .whole-frames) (h .one-geometry) }
+    b = record {
+      sm = sm;
+      rt = rt;
+      samples-ok = samples-of (needOf x) (headOf x) sm rt (samples-most x) A (h .some-frame) (h .whole-frames)
+          (h .one-geometry);
+    }
 
     N : Owed code x (h .known) b A (h .few) T (run (new code) evs) (final (new code) evs) [] A 0 evs
     N =

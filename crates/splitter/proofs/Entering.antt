@@ -15,7 +15,7 @@ use Rattle.heads.specs.declared.syntax.AudioSyntax.{AudioSyntax}
 use Rattle.heads.specs.declared.syntax.CodedSyntax.{CodedSyntax}
 use Rattle.heads.specs.declared.syntax.CodedSyntax.the-variants.{Known, Refused as NoSyntax}
 use Rattle.splitter.specs.Cut.{unread}
-use Rattle.splitter.specs.Answer.{refused, refusalNumber, pushAnswer}
+use Rattle.splitter.specs.Answer.{refused, callNumber, pushAnswer}
 use Rattle.splitter.specs.Push.{Event, refusalOf, refusal, numberBy, pushNumber, stay, admits, pushTaken, pushBy, pushIn, push}
 use Rattle.splitter.specs.Steps.{admission, Shown, Entered}
 use Rattle.splitter.specs.declared.answer.PushAnswer.{PushAnswer}
@@ -47,8 +47,12 @@ module _ (x : AudioSyntax) (s : AudioFrameSplitter) (p : List ℕ) where
   pub taken-head : (i : AudioFrameInfo) → headOf x p ≡ Read i → Open x ≡ admission (admits x s p) x
   taken-head i e = taken (admits-head x s p (ap unread e))
 
-  pub not-taken : (b : Bool) → b ≡ (s .locked || ltb 0 (s .pending)) → b ≡ false → (g : Refusal) → headOf x p ≡ Turned g → Closed NotTaken ≡ admission (admits x s p) x
-  not-taken b q h g e = ap (λ (u : Bool). admission u x) (sym (go (s .locked) (ltb 0 (s .pending)) (not (unread (headOf x p))) (sym q ∙ h) (ap (λ (u : Head). not (unread u)) e)))
+  pub not-taken : (b : Bool) → b ≡ (s .locked || ltb 0 (s .pending)) → b ≡ false → (g : Refusal)
+      → headOf x p ≡ Turned g → Closed NotTaken ≡ admission (admits x s p) x
+  not-taken b q h g e =
+      ap (λ (u : Bool). admission u x)
+      (sym (go (s .locked) (ltb 0 (s .pending)) (not (unread (headOf x p))) (sym q ∙ h)
+      (ap (λ (u : Head). not (unread u)) e)))
     where
       go : (u v w : Bool) → (u || v) ≡ false → w ≡ false → (u || (v || w)) ≡ false
       go true v w q f = let z : _≡_ {A = ℕ} 0 1 = cc in absurd (let none : ⊥ = omega arith in none)
@@ -59,18 +63,21 @@ module _ (x : AudioSyntax) (s : AudioFrameSplitter) (p : List ℕ) where
 
 module _ (s : AudioFrameSplitter) (p : List ℕ) (t : Pts) (b o r : ℕ) where
   -- no syntax has the code
-  pub enters-unknown : (g : Refusal) → syntaxOf (s .syntax) ≡ NoSyntax g → Entered s p t b o r (Closed (Refused SyntaxCode))
+  pub enters-unknown : (g : Refusal) → syntaxOf (s .syntax) ≡ NoSyntax g
+      → Entered s p t b o r (Closed (Refused SyntaxCode))
   unfolding Entered
   enters-unknown g q = ap (λ (k : CodedSyntax). numberBy k (refusalOf s (length p) t b o r)) q
 
   module _ (x : AudioSyntax) (q : syntaxOf (s .syntax) ≡ Known x) where
     -- a number turns it down
-    pub enters-refused : (g : SplitterRefusal) → refusalNumber g ≡ refusalOf s (length p) t b o r → Entered s p t b o r (Closed (Refused g))
+    pub enters-refused : (g : SplitterRefusal) → callNumber g ≡ refusalOf s (length p) t b o r
+        → Entered s p t b o r (Closed (Refused g))
     unfolding Entered
     enters-refused g h = ap (λ (k : CodedSyntax). numberBy k (refusalOf s (length p) t b o r)) q ∙ sym h
 
     -- none does
-    pub enters-fine : refusalOf s (length p) t b o r ≡ 0 → (e : Entry) → e ≡ admission (admits x s p) x → Entered s p t b o r e
+    pub enters-fine : refusalOf s (length p) t b o r ≡ 0 → (e : Entry) → e ≡ admission (admits x s p) x
+        → Entered s p t b o r e
     unfolding Entered
     enters-fine z e w = subst (Shown s p (refusalOf s (length p) t b o r)) (sym w) (go (admits x s p) refl)
       where
@@ -81,7 +88,7 @@ module _ (s : AudioFrameSplitter) (p : List ℕ) (t : Pts) (b o r : ℕ) where
 -- ---- what the push is
 
 module _ (s : AudioFrameSplitter) (e : Event) where
-  turned : (g : SplitterRefusal) (x : AudioSyntax) → pushBy (refusalNumber g) x s e ≡ stay (refused (refusalNumber g)) s e
+  turned : (g : SplitterRefusal) (x : AudioSyntax) → pushBy (callNumber g) x s e ≡ stay (refused (callNumber g)) s e
   turned SyntaxCode x = refl
   turned State x = refl
   turned PayloadLength x = refl
@@ -89,7 +96,8 @@ module _ (s : AudioFrameSplitter) (e : Event) where
   turned Count x = refl
   turned Buffer x = refl
 
-  refused-by : (k : CodedSyntax) (g : SplitterRefusal) → numberBy k (refusal s e) ≡ refusalNumber g → pushIn k s e ≡ stay (refused (refusalNumber g)) s e
+  refused-by : (k : CodedSyntax) (g : SplitterRefusal) → numberBy k (refusal s e) ≡ callNumber g
+      → pushIn k s e ≡ stay (refused (callNumber g)) s e
   refused-by (NoSyntax n) g q = ap (λ (m : ℕ). stay (refused m) s e) q
   refused-by (Known x) g q = ap (λ (m : ℕ). pushBy m x s e) q ∙ turned g x
 
@@ -99,22 +107,25 @@ module _ (s : AudioFrameSplitter) (e : Event) where
   closed NotTaken w = rw (w .known, w .unrefused, w .outside)
   closed (Taken m) w = absurd w
 
-  module _ (r : Entry) (w : Entered s (e .payload) (e .time) (length (e .pend)) (length (e .out)) (length (e .rows)) r) where
-    shown : Shown s (e .payload) (refusal s e) r
-    unfolding Entered
-    shown = w
+  module _ (r : Entry) (w : Entered s (e .payload) (e .time) (length (e .pend)) (length (e .out)) (length (e .rows)) r)
+    where
+      shown : Shown s (e .payload) (refusal s e) r
+      unfolding Entered
+      shown = w
 
-    -- it does not begin: the answer, and nothing else
-    pub push-closed : (a : PushAnswer) → r ≡ Closed a → push s e ≡ stay (pushAnswer a) s e
-    push-closed a q = closed a (subst (Shown s (e .payload) (refusal s e)) q shown)
+      -- it does not begin: the answer, and nothing else
+      pub push-closed : (a : PushAnswer) → r ≡ Closed a → push s e ≡ stay (pushAnswer a) s e
+      push-closed a q = closed a (subst (Shown s (e .payload) (refusal s e)) q shown)
 
-    -- it begins: no number turns it down, and the payload is taken
-    pub entered-fine : (x : AudioSyntax) → r ≡ Open x → refusal s e ≡ 0
-    entered-fine x q = (subst (Shown s (e .payload) (refusal s e)) q shown) .1
+      -- it begins: no number turns it down, and the payload is taken
+      pub entered-fine : (x : AudioSyntax) → r ≡ Open x → refusal s e ≡ 0
+      entered-fine x q = (subst (Shown s (e .payload) (refusal s e)) q shown) .1
 
-    pub push-open : (x : AudioSyntax) → r ≡ Open x → push s e ≡ pushTaken true x s e
-    unfolding push
-    push-open x q = let v : Shown s (e .payload) (refusal s e) (Open x) = subst (Shown s (e .payload) (refusal s e)) q shown in rw (v .0, v .1, v .2)
+      pub push-open : (x : AudioSyntax) → r ≡ Open x → push s e ≡ pushTaken true x s e
+      unfolding push
+      push-open x q =
+          let v : Shown s (e .payload) (refusal s e) (Open x) = subst (Shown s (e .payload) (refusal s e)) q shown in rw
+          (v .0, v .1, v .2)
 
 -- ---- the number that turns a push down, from lengths and numbers alone
 
@@ -123,7 +134,8 @@ number-none : (k : CodedSyntax) (n : ℕ) → numberBy k n ≡ 0 → n ≡ 0
 number-none (NoSyntax g) n q = absurd (let no : ⊥ = omega arith in no)
 number-none (Known x) n q = q
 
-pub none-fine : (s : AudioFrameSplitter) (p : ℕ) (t : Pts) (b o r : ℕ) → pushNumber s p t b o r ≡ 0 → refusalOf s p t b o r ≡ 0
+pub none-fine : (s : AudioFrameSplitter) (p : ℕ) (t : Pts) (b o r : ℕ) → pushNumber s p t b o r ≡ 0
+    → refusalOf s p t b o r ≡ 0
 unfolding pushNumber
 none-fine s p t b o r q = number-none (syntaxOf (s .syntax)) (refusalOf s p t b o r) q
 
@@ -132,7 +144,7 @@ module _ (s : AudioFrameSplitter) (e : Event) where
   numberOf = pushNumber s (length (e .payload)) (e .time) (length (e .pend)) (length (e .out)) (length (e .rows))
 
   -- the push is refused by it
-  pub push-numbered : (g : SplitterRefusal) → numberOf ≡ refusalNumber g → push s e ≡ stay (refused (refusalNumber g)) s e
+  pub push-numbered : (g : SplitterRefusal) → numberOf ≡ callNumber g → push s e ≡ stay (refused (callNumber g)) s e
   unfolding push pushNumber
   push-numbered g q = refused-by s e (syntaxOf (s .syntax)) g q
 

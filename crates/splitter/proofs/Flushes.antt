@@ -6,7 +6,7 @@ use Rattle.heads.specs.declared.info.Refusal.{Refusal}
 use Rattle.heads.specs.declared.syntax.AudioSyntax.{AudioSyntax}
 use Rattle.heads.specs.declared.syntax.CodedSyntax.{CodedSyntax}
 use Rattle.heads.specs.declared.syntax.CodedSyntax.the-variants.{Known, Refused}
-use Rattle.splitter.specs.Answer.{refused, refusalNumber}
+use Rattle.splitter.specs.Answer.{refused, callNumber}
 use Rattle.splitter.specs.Push.{Event, stay}
 use Rattle.splitter.specs.Flush.{flushRefusal, pendingBytes, drain, flushBy, flushIn, flush}
 use Rattle.splitter.specs.declared.answer.SplitterRefusal.{SplitterRefusal}
@@ -14,7 +14,7 @@ use Rattle.splitter.specs.declared.answer.SplitterRefusal.the-variants.{
 use Rattle.splitter.specs.declared.state.AudioFrameSplitter.{AudioFrameSplitter}
 
 module _ (s : AudioFrameSplitter) (e : Event) where
-  turned : (g : SplitterRefusal) (x : AudioSyntax) → flushBy (refusalNumber g) x s e ≡ stay (refused (refusalNumber g)) s e
+  turned : (g : SplitterRefusal) (x : AudioSyntax) → flushBy (callNumber g) x s e ≡ stay (refused (callNumber g)) s e
   turned SyntaxCode x = refl
   turned State x = refl
   turned PayloadLength x = refl
@@ -29,9 +29,10 @@ module _ (s : AudioFrameSplitter) (e : Event) where
 
   module _ (x : AudioSyntax) (q : syntaxOf (s .syntax) ≡ Known x) where
     -- a number turns the flush down
-    pub flush-refused : (g : SplitterRefusal) → refusalNumber g ≡ flushRefusal s e → flush s e ≡ stay (refused (refusalNumber g)) s e
+    pub flush-turned : (g : SplitterRefusal) → callNumber g ≡ flushRefusal s e
+        → flush s e ≡ stay (refused (callNumber g)) s e
     unfolding flush
-    flush-refused g h = ap (λ (k : CodedSyntax). flushIn k s e) q ∙ ap (λ (n : ℕ). flushBy n x s e) (sym h) ∙ turned g x
+    flush-turned g h = ap (λ (k : CodedSyntax). flushIn k s e) q ∙ ap (λ (n : ℕ). flushBy n x s e) (sym h) ∙ turned g x
 
     -- none does
     pub flush-fine : flushRefusal s e ≡ 0 → flush s e ≡ drain (headOf x (pendingBytes s e)) s e

@@ -1,5 +1,5 @@
--- The head at a place of the joined bytes, from the bytes that the code hands to the reader; and a run of places with no head. Assumes
--- nothing.
+-- The head at a place of the joined bytes, from the bytes that the code hands to the reader; and a run of places with
+-- no head. Assumes nothing.
 use mathlib.Core.Path.{_≡_, sym, _∙_, ap, subst}
 use mathlib.Core.Logic.{_⊎_, inl, inr}
 use mathlib.Core.Bool.{true, false, and-false}
@@ -39,24 +39,33 @@ head-of-eight x n s e = go (le-or-lt (length s) 8)
 
 module _ (x : AudioSyntax) (p : ℕ) (pend pay : List ℕ) (hp : p ≤ length pend) (at : ℕ) where
   -- a place of the payload
-  pub head-high : p ≤ at → headOf x (take (length pay - (at - p)) (drop (at - p) pay)) ≡ headOf x (drop at (take p pend ++ pay))
+  pub head-high : p ≤ at
+      → headOf x (take (length pay - (at - p)) (drop (at - p) pay)) ≡ headOf x (drop at (take p pend ++ pay))
   head-high h =
       ap (headOf x)
-      (take-all (length pay - (at - p)) (drop (at - p) pay) (simp length-drop (omega arith)) ∙ sym (joined-high p pend pay hp at h))
+      (take-all (length pay - (at - p)) (drop (at - p) pay) (simp length-drop (omega arith)) ∙ sym
+      (joined-high p pend pay hp at h))
 
   -- one of the pending bytes that has eight of them
   pub head-low : at + 8 ≤ p → headOf x (take (p - at) (drop at pend)) ≡ headOf x (drop at (take p pend ++ pay))
   head-low h =
-      let l : length (take (p - at) (drop at pend)) ≡ p - at = length-take-le (p - at) (drop at pend) (simp length-drop (omega arith)) in
+      let l : length (take (p - at) (drop at pend)) ≡ p - at = length-take-le (p - at) (drop at pend)
+      (simp length-drop (omega arith)) in
       sym (ap (headOf x) (joined-low p pend pay hp at (omega arith))
       ∙ added x (take (p - at) (drop at pend)) pay (omega (arith, need-most x)))
 
   -- one whose bytes were gathered
-  pub head-gathered : (n : ℕ) (z ys : List ℕ) → at ≤ p → n ≡ min (p - at + length pay) 8 → z ≡ over (take n (drop at (take p pend ++ pay))) ys
+  pub head-gathered : (n : ℕ) (z ys : List ℕ) → at ≤ p → n ≡ min (p - at + length pay) 8
+      → z ≡ over (take n (drop at (take p pend ++ pay))) ys
       → headOf x (take n z) ≡ headOf x (drop at (take p pend ++ pay))
   head-gathered n z ys h e q =
-      let l : length (drop at (take p pend ++ pay)) ≡ p - at + length pay = rw (length-drop, joined-length p pend pay hp) (omega arith) in
-      ap (headOf x) (ap (take n) q ∙ take-at (take n (drop at (take p pend ++ pay))) (drop (length (take n (drop at (take p pend ++ pay)))) ys) n (length-take-le n (drop at (take p pend ++ pay)) (omega arith)))
+      let l : length (drop at (take p pend ++ pay)) ≡ p - at + length pay = rw (
+        length-drop,
+        joined-length p pend pay hp,
+      ) (omega arith) in
+      ap (headOf x) (ap (take n) q ∙ take-at (take n (drop at (take p pend ++ pay)))
+      (drop (length (take n (drop at (take p pend ++ pay)))) ys) n
+      (length-take-le n (drop at (take p pend ++ pay)) (omega arith)))
       ∙ head-of-eight x n (drop at (take p pend ++ pay)) (omega arith)
 
 -- ---- what follows a frame
@@ -74,7 +83,8 @@ module _ (x : AudioSyntax) (J : List ℕ) (end : ℕ) where
 -- ---- a run of places with no head
 
 -- m of the bytes after a place were searched for the beginning of a head
-pub unread-from : (x : AudioSyntax) (J : List ℕ) (at m r : ℕ) → Bytes J → r ≡ syncPlace x (take m (drop (at + 1) J)) → at + m + needOf x ≤ length J + 1
+pub unread-from : (x : AudioSyntax) (J : List ℕ) (at m r : ℕ) → Bytes J → r ≡ syncPlace x (take m (drop (at + 1) J))
+    → at + m + needOf x ≤ length J + 1
     → at + needOf x ≤ length J → UnreadRun x J at (1 + r)
 unread-from x J at m r byte e h g =
     record {
@@ -98,7 +108,8 @@ unread-from x J at m r byte e h g =
     unread (suc k) z l =
         let q : at + 1 + k ≡ at + suc k = omega arith in
         let w : b ++ drop m (drop (at + 1) J) ≡ drop (at + 1) J = take-append-drop m (drop (at + 1) J) in
-        subst (λ (s : List ℕ). Unread (headOf x s)) (ap (drop k) w ∙ drop-drop k (at + 1) J ∙ ap (λ (n : ℕ). drop n J) q)
+        subst (λ (s : List ℕ). Unread (headOf x s))
+        (ap (drop k) w ∙ drop-drop k (at + 1) J ∙ ap (λ (n : ℕ). drop n J) q)
         (skipped x b (drop m (drop (at + 1) J)) (subst Bytes (sym w) (bytes-drop (at + 1) J byte)) k (omega arith))
 
 -- a place that was found in a part of l lies within l
@@ -108,13 +119,15 @@ place-within x m k r l e =
     sym (length-append (take m (drop k l)) (drop m (drop k l))) ∙ ap length (take-append-drop m (drop k l)) in
     omega (arith, skipped-most x (take m (drop k l)), length-drop k l)
 
-module _ (x : AudioSyntax) (p : ℕ) (pend pay : List ℕ) (hp : p ≤ length pend) (at need r : ℕ) (n : need ≡ needOf x) (h : at + need ≤ p + length pay)
+module _ (x : AudioSyntax) (p : ℕ) (pend pay : List ℕ) (hp : p ≤ length pend) (at need r : ℕ) (n : need ≡ needOf x)
+    (h : at + need ≤ p + length pay)
     (first : Bytes pend) (second : Bytes pay) where
   bytes : Bytes (take p pend ++ pay)
   bytes = bytes-join (take p pend) pay (bytes-take p pend first) second
 
   -- the bytes after the place that are searched are pending bytes, or those of the payload
-  pub unread-low : (e : ℕ) → at + 1 < p → e ≡ min p (p + length pay - need + 2) → r ≡ syncPlace x (take (e - (at + 1)) (drop (at + 1) pend))
+  pub unread-low : (e : ℕ) → at + 1 < p → e ≡ min p (p + length pay - need + 2)
+      → r ≡ syncPlace x (take (e - (at + 1)) (drop (at + 1) pend))
       → UnreadRun x (take p pend ++ pay) at (1 + r)
   unread-low e l w q =
       let j : length (take p pend ++ pay) ≡ p + length pay = joined-length p pend pay hp in
@@ -123,7 +136,8 @@ module _ (x : AudioSyntax) (p : ℕ) (pend pay : List ℕ) (hp : p ≤ length pe
       (omega (arith, need-least x))
       (omega arith)
 
-  pub unread-high : p ≤ at + 1 → r ≡ syncPlace x (take (p + length pay - need + 2 - p - (at + 1 - p)) (drop (at + 1 - p) pay))
+  pub unread-high : p ≤ at + 1
+      → r ≡ syncPlace x (take (p + length pay - need + 2 - p - (at + 1 - p)) (drop (at + 1 - p) pay))
       → UnreadRun x (take p pend ++ pay) at (1 + r)
   unread-high l q =
       let j : length (take p pend ++ pay) ≡ p + length pay = joined-length p pend pay hp in

@@ -1,11 +1,12 @@
--- The laws of push and flush for the three syntaxes: where the bytes go, what fits, and that no buffer changes its length. Assumes nothing.
+-- The laws of push and flush for the three syntaxes: where the bytes go, what fits, and that no buffer changes its
+-- length. Assumes nothing.
 use mathlib.Core.Path.{_≡_, refl, sym, _∙_, ap}
 use mathlib.Core.Bool.{Bool, true, false}
 use mathlib.Core.List.{List, [], _∷_}
 use Prim.Native.Nat.{ℕ, zero, suc, _+_, _-_, _*_, _/_, _≤_, _<_}
 use native.Mathlib.Omega.{arith}
 use lib.Dec.{ltb}
-use lib.ListN.{length, take, drop, length-append, length-drop}
+use lib.ListN.{length, take, drop, length-append}
 use lib.Seq.{length-take-le, take-append-seam, take-at}
 use borrow.Author.Tests.{ltb-false}
 use Rattle.heads.specs.Syntax.{headOf, needOf, syntaxOf}
@@ -17,41 +18,45 @@ use Rattle.heads.specs.declared.syntax.AudioSyntax.{AudioSyntax}
 use Rattle.heads.specs.declared.syntax.CodedSyntax.{CodedSyntax}
 use Rattle.heads.specs.declared.syntax.CodedSyntax.the-variants.{Known, Refused}
 use Rattle.heads.proofs.Promise.{need-least, need-most, length-most, whole-length}
+use Rattle.splitter.specs.Bounds.{pendingMost, payloadMost, frameLeast, rowWidth}
 use Rattle.splitter.specs.Cut.{Cut, unread, remainder, losses}
-use Rattle.splitter.specs.Stamp.{Sheet, farPts, stampCuts}
+use Rattle.splitter.specs.Stamp.{Yield, farPts, flushed, stampCuts}
 use Rattle.splitter.specs.Answer.{refused, done}
-use Rattle.splitter.specs.Push.{Event, Outcome, rowWidth, badState, badCount, tightOf, refusalOf, refusal, bytesOf, rowsOf, over, stay, clockOf, joined, cutsBy, admits, pushTaken, pushBy, push}
+use Rattle.splitter.specs.Push.{Event, Outcome, badState, badCount, tightOf, refusalOf, refusal, bytesOf, rowsOf, stay, clockOf, joined, cutsBy, admits, pushTaken, pushBy, push}
 use Rattle.splitter.specs.Flush.{flushTightOf, flushRefusalOf, flushRefusal, pendingBytes, drain, flushBy, flushIn, flush}
 use Rattle.splitter.specs.declared.state.AudioFrameSplitter.{AudioFrameSplitter}
 use Rattle.splitter.proofs.Answers.{neither, past, clash, idle-clash, rows-said, bytes-said}
+use Rattle.splitter.proofs.Buffers.{over-length}
 use Rattle.splitter.proofs.Account.{all-of, account, how-many, bounds, given-bytes, sizes, stamp-bytes, stamp-count, rows-size}
 
 -- ---- what a call that is not refused was handed
 
 -- what is known of a push that is not refused
 pub record Room (s : AudioFrameSplitter) (e : Event) : Type 0 where
-  pub pending-in : s .pending ≤ 8190
-  pub pend-room : 8190 ≤ length (e .pend)
+  pub pending-in : s .pending ≤ pendingMost
+  pub pend-room : pendingMost ≤ length (e .pend)
   pub out-room : s .pending + length (e .payload) ≤ length (e .out)
-  pub rows-room : rowWidth * ((s .pending + length (e .payload)) / 7) ≤ length (e .rows)
+  pub rows-room : rowWidth * ((s .pending + length (e .payload)) / frameLeast) ≤ length (e .rows)
 
 -- a push that is not refused has room for all that it can write
 pub room : (s : AudioFrameSplitter) (e : Event) → refusal s e ≡ 0 → Room s e
 unfolding refusalOf badState tightOf
 room s e q =
     let eight = past (badState s) 7 _ q in
-    let nine = past (ltb 65535 (length (e .payload))) 8 _ (eight .1) in
+    let nine = past (ltb payloadMost (length (e .payload))) 8 _ (eight .1) in
     let ten = past (farPts (e .time)) 9 _ (nine .1) in
     let eleven = past (badCount s) 10 _ (ten .1) in
-    let twelve = past (tightOf (s .pending) (length (e .payload)) (length (e .pend)) (length (e .out)) (length (e .rows))) 11 0 (eleven .1) in
-    let state = neither (ltb 8190 (s .pending)) _ (eight .0) in
-    let first = neither (ltb (length (e .pend)) 8190) _ (twelve .0) in
+    let twelve = past (tightOf (s .pending) (length (e .payload)) (length (e .pend)) (length (e .out))
+    (length (e .rows))) 11 0 (eleven .1) in
+    let state = neither (ltb pendingMost (s .pending)) _ (eight .0) in
+    let first = neither (ltb (length (e .pend)) pendingMost) _ (twelve .0) in
     let second = neither (ltb (length (e .out)) (s .pending + length (e .payload))) _ (first .1) in
     record {
-      pending-in = ltb-false 8190 (s .pending) (state .0);
-      pend-room = ltb-false (length (e .pend)) 8190 (first .0);
+      pending-in = ltb-false pendingMost (s .pending) (state .0);
+      pend-room = ltb-false (length (e .pend)) pendingMost (first .0);
       out-room = ltb-false (length (e .out)) (s .pending + length (e .payload)) (second .0);
-      rows-room = ltb-false (length (e .rows)) (rowWidth * ((s .pending + length (e .payload)) / 7)) (second .1);
+      rows-room = ltb-false (length (e .rows)) (rowWidth * ((s .pending + length (e .payload)) / frameLeast))
+          (second .1);
     }
 
 -- ---- the cases of a push
@@ -59,7 +64,8 @@ room s e q =
 module _ (s : AudioFrameSplitter) (e : Event) (P : Outcome → Type 0) where
   -- of a syntax that is known: refused, not taken, or taken
   pub push-by : (x : AudioSyntax) → syntaxOf (s .syntax) ≡ Known x → ((k : ℕ) → P (stay (refused (suc k)) s e))
-      → (refusal s e ≡ 0 → admits x s (e .payload) ≡ false → P (stay (done false 0 0) s e)) → (refusal s e ≡ 0 → admits x s (e .payload) ≡ true → P (pushTaken true x s e)) → P (push s e)
+      → (refusal s e ≡ 0 → admits x s (e .payload) ≡ false → P (stay (done false 0 0) s e)) →
+      (refusal s e ≡ 0 → admits x s (e .payload) ≡ true → P (pushTaken true x s e)) → P (push s e)
   unfolding push
   push-by x known turned idle took = rw known (by (refusal s e) refl)
     where
@@ -73,8 +79,10 @@ module _ (s : AudioFrameSplitter) (e : Event) (P : Outcome → Type 0) where
 
   -- of any code
   pub push-cases : ((k : ℕ) → P (stay (refused (suc k)) s e))
-      → ((x : AudioSyntax) → syntaxOf (s .syntax) ≡ Known x → refusal s e ≡ 0 → admits x s (e .payload) ≡ false → P (stay (done false 0 0) s e))
-      → ((x : AudioSyntax) → syntaxOf (s .syntax) ≡ Known x → refusal s e ≡ 0 → admits x s (e .payload) ≡ true → P (pushTaken true x s e)) → P (push s e)
+      → ((x : AudioSyntax) → syntaxOf (s .syntax) ≡ Known x → refusal s e ≡ 0 → admits x s (e .payload) ≡ false → P
+      (stay (done false 0 0) s e))
+      → ((x : AudioSyntax) → syntaxOf (s .syntax) ≡ Known x → refusal s e ≡ 0 → admits x s (e .payload) ≡ true → P
+      (pushTaken true x s e)) → P (push s e)
   unfolding push
   push-cases turned idle took = go (syntaxOf (s .syntax)) refl
     where
@@ -88,26 +96,33 @@ module _ (x : AudioSyntax) (s : AudioFrameSplitter) (e : Event) where
   abbrev cuts : List Cut
   cuts = cutsBy x s e
 
-  abbrev marked : Sheet
+  abbrev marked : Yield
   marked = stampCuts (s .pending) (clockOf s e) cuts
 
   some-need : 0 < needOf x
   some-need = omega (arith, need-least x)
 
   pub brought : s .pending ≤ length (e .pend) → length (joined s e) ≡ s .pending + length (e .payload)
-  brought h = length-append (take (s .pending) (e .pend)) (e .payload) ∙ ap (λ (n : ℕ). n + length (e .payload)) (length-take-le (s .pending) (e .pend) h)
+  brought h =
+      length-append (take (s .pending) (e .pend)) (e .payload) ∙ ap (λ (n : ℕ). n + length (e .payload))
+      (length-take-le (s .pending) (e .pend) h)
 
   -- pending bytes and payload, in order, are the bytes of the cuts
   pub joined-cut : joined s e ≡ all-of (cutsBy x s e)
   joined-cut = sym (account (needOf x) (headOf x) some-need (joined s e) 0)
 
   -- at most 8190 bytes are kept
-  pub taken-pending : length (remainder (cutsBy x s e)) ≤ 8190
-  taken-pending = (bounds (needOf x) (headOf x) (omega (arith, need-most x)) (λ l i r h. whole-length x l i r h) (λ l i r. length-most x l i r) (joined s e) 0) .1
+  pub taken-pending : length (remainder (cutsBy x s e)) ≤ pendingMost
+  taken-pending = (bounds (needOf x) (headOf x) (omega (arith, need-most x)) (λ l i r h. whole-length x l i r h)
+      (λ l i r. length-most x l i r) (joined s e) 0) .1
 
   -- seven bytes at least to a frame
-  pub many-in : how-many (cutsBy x s e) * 7 ≤ length (joined s e)
-  many-in = omega (arith, (bounds (needOf x) (headOf x) (omega (arith, need-most x)) (λ l i r h. whole-length x l i r h) (λ l i r. length-most x l i r) (joined s e) 0) .0)
+  pub many-in : how-many (cutsBy x s e) * frameLeast ≤ length (joined s e)
+  many-in = omega (
+    arith,
+    (bounds (needOf x) (headOf x) (omega (arith, need-most x)) (λ l i r h. whole-length x l i r h)
+        (λ l i r. length-most x l i r) (joined s e) 0) .0,
+  )
 
   module _ (q : refusal s e ≡ 0) where
     in-pend : s .pending ≤ length (e .pend)
@@ -115,7 +130,8 @@ module _ (x : AudioSyntax) (s : AudioFrameSplitter) (e : Event) where
 
     -- the bytes handed back, those lost and those kept are those brought
     pub taken-sum : s .pending + length (e .payload)
-        ≡ length (bytesOf (stampCuts (s .pending) (clockOf s e) (cutsBy x s e) .frames)) + losses (cutsBy x s e) + length (remainder (cutsBy x s e))
+        ≡ length (bytesOf (stampCuts (s .pending) (clockOf s e) (cutsBy x s e) .frames)) + losses
+        (cutsBy x s e) + length (remainder (cutsBy x s e))
     taken-sum =
         omega (
           arith,
@@ -131,7 +147,13 @@ module _ (x : AudioSyntax) (s : AudioFrameSplitter) (e : Event) where
 
     -- their rows fit the rows
     pub taken-rows : length (stampCuts (s .pending) (clockOf s e) (cutsBy x s e) .frames) * rowWidth ≤ length (e .rows)
-    taken-rows = omega (arith, stamp-count cuts (s .pending) (clockOf s e), many-in, brought in-pend, (room s e q) .rows-room)
+    taken-rows = omega (
+      arith,
+      stamp-count cuts (s .pending) (clockOf s e),
+      many-in,
+      brought in-pend,
+      (room s e q) .rows-room,
+    )
 
     -- what is kept fits the pending buffer
     pub taken-pend : length (remainder (cutsBy x s e)) ≤ length (e .pend)
@@ -139,46 +161,37 @@ module _ (x : AudioSyntax) (s : AudioFrameSplitter) (e : Event) where
 
 -- ---- the laws of push
 
--- what is written over keeps its length
-pub over-length {ℓ} : {A : Type ℓ} (new old : List A) → length new ≤ length old → length (over new old) ≡ length old
-over-length new old h = length-append new (drop (length new) old) ∙ ap (λ (n : ℕ). length new + n) (length-drop (length new) old) ∙ omega arith
-
 module _ (s : AudioFrameSplitter) (e : Event) where
   -- pending bytes and payload are the bytes written, the bytes newly discarded and the bytes pending
-  pub push-sum : (r b : ℕ) → (push s e) .answer ≡ done true r b
-      → s .pending + length (e .payload) + s .discarded ≡ b + (push s e) .state .discarded + (push s e) .state .pending
-  push-sum r b =
-      push-cases s e
-      (λ o. o .answer ≡ done true r b → s .pending + length (e .payload) + s .discarded ≡ b + o .state .discarded + o .state .pending)
-      (λ k a. absurd (clash (suc k) true r b a))
-      (λ x known q t a. absurd (idle-clash 0 0 r b a))
-      (λ x known q t a. omega (arith, taken-sum x s e q, bytes-said true true _ _ r b a))
-
-  -- the same by the difference of the counts
   pub push-account : (r b : ℕ) → (push s e) .answer ≡ done true r b
-      → s .pending + length (e .payload) ≡ b + ((push s e) .state .discarded - s .discarded) + (push s e) .state .pending
+      → s .pending + length (e .payload) + s .discarded ≡ b + (push s e) .state .discarded + (push s e) .state .pending
   push-account r b =
       push-cases s e
-      (λ o. o .answer ≡ done true r b → s .pending + length (e .payload) ≡ b + (o .state .discarded - s .discarded) + o .state .pending)
+      (λ o. o .answer ≡ done true r b → s .pending + length
+      (e .payload) + s .discarded ≡ b + o .state .discarded + o .state .pending)
       (λ k a. absurd (clash (suc k) true r b a))
       (λ x known q t a. absurd (idle-clash 0 0 r b a))
       (λ x known q t a. omega (arith, taken-sum x s e q, bytes-said true true _ _ r b a))
 
   -- a push that finds at most 8190 bytes pending, be it refused or not, leaves at most 8190
-  pub pending-most : s .pending ≤ 8190 → (push s e) .state .pending ≤ 8190
-  pending-most h = push-cases s e (λ o. o .state .pending ≤ 8190) (λ k. h) (λ x known q t. h) (λ x known q t. taken-pending x s e)
+  pub pending-most : s .pending ≤ pendingMost → (push s e) .state .pending ≤ pendingMost
+  pending-most h =
+      push-cases s e (λ o. o .state .pending ≤ pendingMost) (λ k. h) (λ x known q t. h)
+      (λ x known q t. taken-pending x s e)
 
   -- a push that is not refused leaves at most 8190, whatever it found
-  pub pending-done : (u : Bool) (r b : ℕ) → (push s e) .answer ≡ done u r b → (push s e) .state .pending ≤ 8190
+  pub pending-done : (u : Bool) (r b : ℕ) → (push s e) .answer ≡ done u r b → (push s e) .state .pending ≤ pendingMost
   pending-done u r b =
-      push-cases s e (λ o. o .answer ≡ done u r b → o .state .pending ≤ 8190) (λ k a. absurd (clash (suc k) u r b a))
+      push-cases s e (λ o. o .answer ≡ done u r b → o .state .pending ≤ pendingMost)
+      (λ k a. absurd (clash (suc k) u r b a))
       (λ x known q t a. (room s e q) .pending-in)
       (λ x known q t a. taken-pending x s e)
 
   -- the rows that a push says it wrote fit
   pub rows-fit : (u : Bool) (r b : ℕ) → (push s e) .answer ≡ done u r b → r * rowWidth ≤ length (e .rows)
   rows-fit u r b =
-      push-cases s e (λ o. o .answer ≡ done u r b → r * rowWidth ≤ length (e .rows)) (λ k a. absurd (clash (suc k) u r b a))
+      push-cases s e (λ o. o .answer ≡ done u r b → r * rowWidth ≤ length (e .rows))
+      (λ k a. absurd (clash (suc k) u r b a))
       (λ x known q t a. omega (arith, rows-said false u 0 0 r b a))
       (λ x known q t a. omega (arith, rows-said true u _ _ r b a, taken-rows x s e q))
 
@@ -199,7 +212,11 @@ module _ (s : AudioFrameSplitter) (e : Event) where
   pub push-rows-length : length ((push s e) .rows) ≡ length (e .rows)
   push-rows-length =
       push-cases s e (λ o. length (o .rows) ≡ length (e .rows)) (λ k. refl) (λ x known q t. refl)
-      (λ x known q t. over-length (rowsOf (marked x s e .frames)) (e .rows) (omega (arith, rows-size (marked x s e .frames), taken-rows x s e q)))
+      (λ x known q t. over-length (rowsOf (marked x s e .frames)) (e .rows) (omega (
+        arith,
+        rows-size (marked x s e .frames),
+        taken-rows x s e q,
+      )))
 
   -- the pending buffer
   pub push-pend-length : length ((push s e) .pend) ≡ length (e .pend)
@@ -211,7 +228,8 @@ module _ (x : AudioSyntax) (s : AudioFrameSplitter) (e : Event) (known : syntaxO
     (answered : (push s e) .answer ≡ done true r b) where
   when-taken : (P : Outcome → Type 0) → (refusal s e ≡ 0 → P (pushTaken true x s e)) → P (push s e)
   when-taken P h =
-      push-by s e (λ o. o .answer ≡ done true r b → P o) x known (λ k a. absurd (clash (suc k) true r b a)) (λ q t a. absurd (idle-clash 0 0 r b a)) (λ q t a. h q)
+      push-by s e (λ o. o .answer ≡ done true r b → P o) x known (λ k a. absurd (clash (suc k) true r b a))
+      (λ q t a. absurd (idle-clash 0 0 r b a)) (λ q t a. h q)
       answered
 
   -- the count goes up by the bytes given up
@@ -221,21 +239,24 @@ module _ (x : AudioSyntax) (s : AudioFrameSplitter) (e : Event) (known : syntaxO
   -- the bytes written are those of the frames, in order
   pub push-output : take b ((push s e) .out) ≡ given-bytes (cutsBy x s e)
   push-output =
-      push-by s e (λ o. o .answer ≡ done true r b → take b (o .out) ≡ given-bytes (cutsBy x s e)) x known (λ k a. absurd (clash (suc k) true r b a))
+      push-by s e (λ o. o .answer ≡ done true r b → take b (o .out) ≡ given-bytes (cutsBy x s e)) x known
+      (λ k a. absurd (clash (suc k) true r b a))
       (λ q t a. absurd (idle-clash 0 0 r b a))
-      (λ q t a. rw (sym (bytes-said true true _ _ r b a)) (take-append-seam (bytesOf (marked x s e .frames)) _ ∙ stamp-bytes (cutsBy x s e) (s .pending) (clockOf s e)))
+      (λ q t a. rw (sym (bytes-said true true _ _ r b a))
+      (take-append-seam (bytesOf (marked x s e .frames)) _ ∙ stamp-bytes (cutsBy x s e) (s .pending) (clockOf s e)))
       answered
 
   -- the bytes pending are those that the search kept
   pub push-left : take ((push s e) .state .pending) ((push s e) .pend) ≡ remainder (cutsBy x s e)
-  push-left = when-taken (λ o. take (o .state .pending) (o .pend) ≡ remainder (cutsBy x s e)) (λ q. take-append-seam (remainder (cutsBy x s e)) _)
+  push-left = when-taken (λ o. take (o .state .pending) (o .pend) ≡ remainder (cutsBy x s e))
+      (λ q. take-append-seam (remainder (cutsBy x s e)) _)
 
 -- ---- flush
 
 -- what is known of a flush that is not refused
 pub record FlushRoom (s : AudioFrameSplitter) (e : Event) : Type 0 where
-  pub pending-in : s .pending ≤ 8190
-  pub pend-room : 8190 ≤ length (e .pend)
+  pub pending-in : s .pending ≤ pendingMost
+  pub pend-room : pendingMost ≤ length (e .pend)
   pub out-room : s .pending ≤ length (e .out)
   pub rows-room : rowWidth ≤ length (e .rows)
 
@@ -244,25 +265,30 @@ pub flush-room : (s : AudioFrameSplitter) (e : Event) → flushRefusal s e ≡ 0
 unfolding flushRefusalOf badState flushTightOf
 flush-room s e q =
     let eight = past (badState s) 7 _ q in
-    let twelve = past (flushTightOf (s .pending) (length (e .pend)) (length (e .out)) (length (e .rows))) 11 0 (eight .1) in
-    let state = neither (ltb 8190 (s .pending)) _ (eight .0) in
-    let first = neither (ltb (length (e .pend)) 8190) _ (twelve .0) in
+    let twelve = past (flushTightOf (s .pending) (length (e .pend)) (length (e .out)) (length (e .rows))) 11 0
+    (eight .1) in
+    let state = neither (ltb pendingMost (s .pending)) _ (eight .0) in
+    let first = neither (ltb (length (e .pend)) pendingMost) _ (twelve .0) in
     let second = neither (ltb (length (e .out)) (s .pending)) _ (first .1) in
     record {
-      pending-in = ltb-false 8190 (s .pending) (state .0);
-      pend-room = ltb-false (length (e .pend)) 8190 (first .0);
+      pending-in = ltb-false pendingMost (s .pending) (state .0);
+      pend-room = ltb-false (length (e .pend)) pendingMost (first .0);
       out-room = ltb-false (length (e .out)) (s .pending) (second .0);
       rows-room = ltb-false (length (e .rows)) rowWidth (second .1);
     }
 
 -- of any code: refused, no frame, or a frame
-pub flush-cases : (s : AudioFrameSplitter) (e : Event) (P : Outcome → Type 0) → ((k : ℕ) → P (stay (refused (suc k)) s e))
-    → ((x : AudioSyntax) (g : Refusal) → syntaxOf (s .syntax) ≡ Known x → flushRefusal s e ≡ 0 → headOf x (pendingBytes s e) ≡ Unreadable g → P (stay (done false 0 0) s e))
-    → ((x : AudioSyntax) (i : AudioFrameInfo) → syntaxOf (s .syntax) ≡ Known x → flushRefusal s e ≡ 0 → headOf x (pendingBytes s e) ≡ Read i → P (drain (Read i) s e)) → P (flush s e)
+pub flush-cases : (s : AudioFrameSplitter) (e : Event) (P : Outcome → Type 0)
+    → ((k : ℕ) → P (stay (refused (suc k)) s e))
+    → ((x : AudioSyntax) (g : Refusal) → syntaxOf (s .syntax) ≡ Known x → flushRefusal s e ≡ 0 → headOf x
+    (pendingBytes s e) ≡ Unreadable g → P (stay (done false 0 0) s e))
+    → ((x : AudioSyntax) (i : AudioFrameInfo) → syntaxOf (s .syntax) ≡ Known x → flushRefusal s e ≡ 0 → headOf x
+    (pendingBytes s e) ≡ Read i → P (drain (Read i) s e)) → P (flush s e)
 unfolding flush
 flush-cases s e P turned idle gave = go (syntaxOf (s .syntax)) refl
   where
-    end : (x : AudioSyntax) → syntaxOf (s .syntax) ≡ Known x → flushRefusal s e ≡ 0 → (h : Head) → headOf x (pendingBytes s e) ≡ h → P (drain h s e)
+    end : (x : AudioSyntax) → syntaxOf (s .syntax) ≡ Known x → flushRefusal s e ≡ 0 → (h : Head)
+        → headOf x (pendingBytes s e) ≡ h → P (drain h s e)
     end x known q (Read i) a = gave x i known q a
     end x known q (Unreadable g) a = idle x g known q a
 
@@ -274,7 +300,8 @@ flush-cases s e P turned idle gave = go (syntaxOf (s .syntax)) refl
     go (Known x) q = by x q (flushRefusal s e) refl
     go (Refused g) q = turned 6
 
-module _ (x : AudioSyntax) (s : AudioFrameSplitter) (e : Event) (known : syntaxOf (s .syntax) ≡ Known x) (free : flushRefusal s e ≡ 0) where
+module _ (x : AudioSyntax) (s : AudioFrameSplitter) (e : Event) (known : syntaxOf (s .syntax) ≡ Known x)
+    (free : flushRefusal s e ≡ 0) where
   -- a flush that is not refused gives the pending bytes if their head reads
   pub flush-gives : unread (headOf x (pendingBytes s e)) ≡ false → (flush s e) .answer ≡ done true 1 (s .pending)
   unfolding flush
@@ -312,7 +339,11 @@ pub record OneFrame (s : AudioFrameSplitter) (e : Event) (r b : ℕ) (o : Outcom
 
 module _ (s : AudioFrameSplitter) (e : Event) where
   pending-size : flushRefusal s e ≡ 0 → length (pendingBytes s e) ≡ s .pending
-  pending-size q = length-take-le (s .pending) (e .pend) (omega (arith, (flush-room s e q) .pending-in, (flush-room s e q) .pend-room))
+  pending-size q = length-take-le (s .pending) (e .pend) (omega (
+    arith,
+    (flush-room s e q) .pending-in,
+    (flush-room s e q) .pend-room,
+  ))
 
   -- a flush that gives gives one frame, the pending bytes, and leaves none pending
   pub flush-one : (r b : ℕ) → (flush s e) .answer ≡ done true r b → OneFrame s e r b (flush s e)
@@ -330,21 +361,31 @@ module _ (s : AudioFrameSplitter) (e : Event) where
       })
 
   -- a flush that finds at most 8190 bytes pending, be it refused or not, leaves at most 8190
-  pub flush-pending-most : s .pending ≤ 8190 → (flush s e) .state .pending ≤ 8190
-  flush-pending-most h = flush-cases s e (λ o. o .state .pending ≤ 8190) (λ k. h) (λ x g known q t. h) (λ x i known q t. omega arith)
+  pub flush-pending-most : s .pending ≤ pendingMost → (flush s e) .state .pending ≤ pendingMost
+  flush-pending-most h =
+      flush-cases s e (λ o. o .state .pending ≤ pendingMost) (λ k. h) (λ x g known q t. h)
+      (λ x i known q t. omega arith)
 
   -- no flush changes the length of a buffer: the output
   pub flush-out-length : length ((flush s e) .out) ≡ length (e .out)
   flush-out-length =
       flush-cases s e (λ o. length (o .out) ≡ length (e .out)) (λ k. refl) (λ x g known q h. refl)
-      (λ x i known q h. over-length (pendingBytes s e) (e .out) (omega (arith, pending-size q, (flush-room s e q) .out-room)))
+      (λ x i known q h. over-length (pendingBytes s e) (e .out) (omega (
+        arith,
+        pending-size q,
+        (flush-room s e q) .out-room,
+      )))
 
   -- the rows
   pub flush-rows-length : length ((flush s e) .rows) ≡ length (e .rows)
   flush-rows-length =
       flush-cases s e (λ o. length (o .rows) ≡ length (e .rows)) (λ k. refl) (λ x g known q h. refl)
       (λ x i known q h.
-      over-length (rowsOf (record { info = i; bytes = pendingBytes s e; stamp = s .timing .«residual_pts» } ∷ [])) (e .rows) (omega (arith, (flush-room s e q) .rows-room)))
+      over-length (rowsOf (record {
+        info = i;
+        bytes = pendingBytes s e;
+        stamp = flushed i (s .timing) .pts;
+      } ∷ [])) (e .rows) (omega (arith, (flush-room s e q) .rows-room)))
 
   -- of the pending buffer it changes nothing
   pub flush-pend-same : (flush s e) .pend ≡ e .pend

@@ -3,7 +3,6 @@
 -- of lists, of tests and answers, and of signed numbers, in general
 pub mod Lists
 pub mod Answers
-pub mod Signed
 -- the search, and places in a list of frames
 pub mod Cutting
 pub mod Places
@@ -15,6 +14,7 @@ pub mod Account
 pub mod Laws
 -- what turns a call down and what stays then, and which numbers can come where calls reach
 pub mod Refusing
+pub mod Order
 pub mod Reached
 -- the stamps: the demand's rule frame by frame, the stamping rule, and one push
 pub mod Marks

@@ -24,7 +24,8 @@ module _ {ℓ} {A : Type ℓ} where
   pub front-of : (a b c d : List A) → a ++ b ≡ c ++ d → length c ≤ length a → a ≡ c ++ drop (length c) a
   front-of a b c d e h =
       sym (take-append-drop (length c) a)
-      ∙ ap (λ (l : List A). l ++ drop (length c) a) (sym (take-append-le (length c) a b h) ∙ ap (take (length c)) e ∙ take-append-seam c d)
+      ∙ ap (λ (l : List A). l ++ drop (length c) a)
+      (sym (take-append-le (length c) a b h) ∙ ap (take (length c)) e ∙ take-append-seam c d)
 
   pub back-of : (a b c d : List A) → a ++ b ≡ c ++ d → length c ≤ length a → drop (length c) a ++ b ≡ d
   back-of a b c d e h = sym (drop-append-le (length c) a b h) ∙ ap (drop (length c)) e ∙ drop-append-seam c d

@@ -1,5 +1,5 @@
--- DEMAND 3, proved for a list of pushes by one invariant; the stamps are the demand's frame by frame. Of what the stamping rule keeps it
--- says only `st .timing`. Assumes nothing but what the section's parameters say.
+-- DEMAND 3, proved for a list of pushes by one invariant; the stamps are the demand's frame by frame. Of what the
+-- stamping rule keeps it says only `st .timing`. Assumes nothing but what the section's parameters say.
 use mathlib.Core.Path.{_≡_, refl, sym, _∙_, ap, ap₂, subst}
 use mathlib.Core.Bool.{Bool, true, false, _||_}
 use mathlib.Core.Logic.{_⊎_, inl, inr}
@@ -18,11 +18,12 @@ use Rattle.heads.specs.Syntax.{headOf, needOf, syntaxOf}
 use Rattle.heads.specs.declared.info.AudioFrameInfo.{AudioFrameInfo}
 use Rattle.heads.specs.declared.syntax.AudioSyntax.{AudioSyntax}
 use Rattle.heads.specs.declared.syntax.CodedSyntax.the-variants.{Known}
+use Rattle.splitter.specs.Bounds.{pendingMost, sinceMost, rowWidth}
 use Rattle.splitter.specs.Cut.{Reader, walk}
-use Rattle.splitter.specs.Stamp.{Frame, Sheet, farPts, manyFrames, stampCuts}
+use Rattle.splitter.specs.Stamp.{Frame, Yield, farPts, manyFrames, clockWith, stampCuts}
 use Rattle.splitter.specs.Answer.{refused, done}
-use Rattle.splitter.specs.Push.{Event, Outcome, rowWidth, refusal, bytesOf, row, rowsOf, over, anyFrame, stay, finish, clockOf, cutsBy, admits, push, run, final}
-use Rattle.splitter.specs.Demand.{join, Each, begun, whole, tailAt, limit, within, Timed, Starts, sheet, Seen, seen, seenTaken, seenRefused, part, owed, payloads, outputs, allRows, Carried}
+use Rattle.splitter.specs.Push.{Event, Outcome, refusal, bytesOf, row, rowsOf, over, anyFrame, stay, finish, clockOf, cutsBy, admits, push, run, final}
+use Rattle.splitter.specs.Demand.{join, Each, begun, whole, tailAt, limit, within, Timed, Starts, framesFrom, Seen, seen, seenTaken, seenRefused, part, owed, payloads, outputs, allRows, Carried}
 use Rattle.splitter.specs.declared.timing.Pts.{Pts}
 use Rattle.splitter.specs.declared.timing.Pts.the-variants.{Absent}
 use Rattle.splitter.specs.declared.state.AudioFrameSplitter.{AudioFrameSplitter}
@@ -31,9 +32,9 @@ use Rattle.splitter.proofs.Lists.{le-or-lt, nil-of}
 use Rattle.splitter.proofs.Cutting.{cutsOf, cutting, next-reads}
 use Rattle.splitter.proofs.Places.{Solid, Part, rest, whole-after, begun-after, begun-zero, begun-yes, begun-part, begun-le, begun-mono, whole-part, whole-le, tail-after, tail-part, join-append, join-length, rest-joins, rest-part, rest-size, tail-rest, no-loss}
 use Rattle.splitter.proofs.Marks.{Mark, stampsE, ticksE, infos, stamps-length, infos-length, commencing, stampsOf}
-use Rattle.splitter.proofs.Rule.{Basis, W as Fine, whole-of, clockWith, FineA, FineM, timing-fine, fine-many}
-use Rattle.splitter.proofs.Stamping.{Says, Left, AsOwed, News, stamping, part-sheet, sheet-append}
-use Rattle.splitter.proofs.Calls.{push-refused, push-taken, within-yes, within-no, owed-yes, owed-no, refusal-is-limit, admits-locked, admits-pending, admits-head, limit-time}
+use Rattle.splitter.proofs.Rule.{Basis, W as Fine, whole-of, FineA, FineM, timing-fine, fine-many}
+use Rattle.splitter.proofs.Stamping.{Says, Left, AsOwed, News, stamping, part-frames, frames-append}
+use Rattle.splitter.proofs.Calls.{push-turned, push-taken, within-yes, within-no, owed-yes, owed-no, refusal-is-limit, admits-locked, admits-pending, admits-head, limit-time}
 
 -- ---- rows
 
@@ -44,7 +45,8 @@ rows-append (f ∷ X) Y = ap (λ (l : List ℤ). row f ++ l) (rows-append X Y)
 -- ---- the invariant
 
 -- L: the stamps of A's frames
-module _ (code : ℕ) (x : AudioSyntax) (known : syntaxOf code ≡ Known x) (b : Basis (headOf x)) (A : List (List ℕ)) (few : length A < 4294000000) (L : List Pts) where
+module _ (code : ℕ) (x : AudioSyntax) (known : syntaxOf code ≡ Known x) (b : Basis (headOf x)) (A : List (List ℕ))
+    (few : length A < sinceMost) (L : List Pts) where
   abbrev pub τ : ℕ → Pts
   τ j = getD L j Absent
 
@@ -64,7 +66,8 @@ module _ (code : ℕ) (x : AudioSyntax) (known : syntaxOf code ≡ Known x) (b :
   W = Fine n rd b
 
   -- G: the frames that are whole; B: the others; r: what came of them; s: how much came in all; m: the mark
-  pub record Inv (G B : List (List ℕ)) (r : List ℕ) (s : ℕ) (m : Option Mark) (st : AudioFrameSplitter) (es : List Event) : Type 0 where
+  pub record Inv (G B : List (List ℕ)) (r : List ℕ) (s : ℕ) (m : Option Mark) (st : AudioFrameSplitter)
+      (es : List Event) : Type 0 where
     pub split : G ++ B ≡ A
     pub place : length (join G) + length r ≡ s
     pub good-G : Each W G
@@ -84,26 +87,35 @@ module _ (code : ℕ) (x : AudioSyntax) (known : syntaxOf code ≡ Known x) (b :
   solid [] g = tt
   solid (f ∷ B) g = (omega (arith, some-need, g .0 .0 .long), solid B (g .1))
 
-  pending-ok : (B : List (List ℕ)) (c : ℕ) → Each W B → Part B c → c ≤ 8190
+  pending-ok : (B : List (List ℕ)) (c : ℕ) → Each W B → Part B c → c ≤ pendingMost
   pending-ok [] c g p = omega arith
   pending-ok (f ∷ B) c g p = omega (arith, length-most x f (g .0 .0 .info) (g .0 .0 .reads), g .0 .0 .exact)
 
-  module _ (G B : List (List ℕ)) (r : List ℕ) (s : ℕ) (m : Option Mark) (st : AudioFrameSplitter) (es : List Event) (inv : Inv G B r s m st es) where
+  module _ (G B : List (List ℕ)) (r : List ℕ) (s : ℕ) (m : Option Mark) (st : AudioFrameSplitter) (es : List Event)
+      (inv : Inv G B r s m st es) where
     -- the places at s, and later by y bytes of B in all
     whole-there : (y : ℕ) → whole A (length (join G) + y) ≡ length G + whole B y
-    whole-there y = subst (λ (L : List (List ℕ)). whole L (length (join G) + y) ≡ length G + whole B y) (inv .split) (whole-after G B y)
+    whole-there y =
+        subst (λ (L : List (List ℕ)). whole L (length (join G) + y) ≡ length G + whole B y) (inv .split)
+        (whole-after G B y)
 
     begun-there : (y : ℕ) → begun A (length (join G) + y) ≡ length G + begun B y
-    begun-there y = subst (λ (L : List (List ℕ)). begun L (length (join G) + y) ≡ length G + begun B y) (inv .split) (begun-after G B y (solid G (inv .good-G)))
+    begun-there y =
+        subst (λ (L : List (List ℕ)). begun L (length (join G) + y) ≡ length G + begun B y) (inv .split)
+        (begun-after G B y (solid G (inv .good-G)))
 
     tail-there : (y : ℕ) → tailAt A (length (join G) + y) ≡ tailAt B y
-    tail-there y = subst (λ (L : List (List ℕ)). tailAt L (length (join G) + y) ≡ tailAt B y) (inv .split) (tail-after G B y)
+    tail-there y =
+        subst (λ (L : List (List ℕ)). tailAt L (length (join G) + y) ≡ tailAt B y) (inv .split) (tail-after G B y)
 
     tail-here : tailAt A s ≡ r
     tail-here = ap (tailAt A) (sym (inv .place)) ∙ tail-there (length r) ∙ tail-part B r _ (inv .joins) (inv .piece)
 
     whole-here : whole A s ≡ length G
-    whole-here = ap (whole A) (sym (inv .place)) ∙ whole-there (length r) ∙ omega (arith, whole-part B (length r) (inv .piece))
+    whole-here = ap (whole A) (sym (inv .place)) ∙ whole-there (length r) ∙ omega (
+      arith,
+      whole-part B (length r) (inv .piece),
+    )
 
     begun-here : begun A s ≡ length G + begun B (length r)
     begun-here = ap (begun A) (sym (inv .place)) ∙ begun-there (length r)
@@ -114,7 +126,8 @@ module _ (code : ℕ) (x : AudioSyntax) (known : syntaxOf code ≡ Known x) (b :
     fine-here : FineA (st .timing) (begun A s)
     fine-here = go B (length r) (inv .left) (inv .piece) begun-here
       where
-        go : (B : List (List ℕ)) (c : ℕ) → Left n rd b τ B c (st .timing) m (length G) → Part B c → begun A s ≡ length G + begun B c → FineA (st .timing) (begun A s)
+        go : (B : List (List ℕ)) (c : ℕ) → Left n rd b τ B c (st .timing) m (length G) → Part B c
+            → begun A s ≡ length G + begun B c → FineA (st .timing) (begun A s)
         go B zero d p q = rw d (timing-fine n rd b m (begun A s) (inv .fine))
         go [] (suc c) d p q = absurd d
         go (f ∷ B) (suc c) d p q =
@@ -126,7 +139,11 @@ module _ (code : ℕ) (x : AudioSyntax) (known : syntaxOf code ≡ Known x) (b :
 
     refusal-here : (e : Event) → refusal st e ≡ limit (length (tailAt A s)) e
     refusal-here e =
-        refusal-is-limit st e (omega (arith, inv .pending, pending-ok B (length r) (inv .good-B) (inv .piece))) (fine-here .good) many-here (inv .discarded)
+        refusal-is-limit st e (omega (
+          arith,
+          inv .pending,
+          pending-ok B (length r) (inv .good-B) (inv .piece),
+        )) (fine-here .good) many-here (inv .discarded)
         ∙ ap (λ (k : ℕ). limit k e) (inv .pending ∙ ap length (sym tail-here))
 
   each-append : (X Y : List (List ℕ)) → Each W X → Each W Y → Each W (X ++ Y)
@@ -157,10 +174,10 @@ module _ (code : ℕ) (x : AudioSyntax) (known : syntaxOf code ≡ Known x) (b :
         rows = over (rowsOf F) (e .rows);
       }
 
-  any-sheet : (j : ℕ) (X : List (List ℕ)) (g : ℕ) → (ltb 0 g || anyFrame (sheet rd σ j X)) ≡ ltb 0 (g + length X)
-  any-sheet j X (suc g) = rw (lt-ltb 0 (suc g) (omega arith), lt-ltb 0 (suc g + length X) (omega arith))
-  any-sheet j [] zero = refl
-  any-sheet j (f ∷ X) zero = rw (lt-ltb 0 (0 + length (f ∷ X)) (omega arith))
+  any-frames : (j : ℕ) (X : List (List ℕ)) (g : ℕ) → (ltb 0 g || anyFrame (framesFrom rd σ j X)) ≡ ltb 0 (g + length X)
+  any-frames j X (suc g) = rw (lt-ltb 0 (suc g) (omega arith), lt-ltb 0 (suc g + length X) (omega arith))
+  any-frames j [] zero = refl
+  any-frames j (f ∷ X) zero = rw (lt-ltb 0 (0 + length (f ∷ X)) (omega arith))
 
   begun-some : (B : List (List ℕ)) (y : ℕ) → y ≤ length (join B) → 0 < y → 0 < begun B y
   begun-some [] y h l = absurd (let no : ⊥ = omega arith in no)
@@ -169,37 +186,48 @@ module _ (code : ℕ) (x : AudioSyntax) (known : syntaxOf code ≡ Known x) (b :
   -- ---- the list
 
   abbrev pub F : List Frame
-  F = sheet rd σ 0 A
+  F = framesFrom rd σ 0 A
 
-  pub record Owed (o : List Outcome) (st : AudioFrameSplitter) (G B : List (List ℕ)) (s : ℕ) (es : List Event) : Type 0 where
+  pub record Owed (o : List Outcome) (st : AudioFrameSplitter) (G B : List (List ℕ)) (s : ℕ)
+      (es : List Event) : Type 0 where
     pub each-push : map seen o ≡ owed code A F s es
     pub bytes : outputs o ≡ join B
-    pub rows : allRows o ≡ rowsOf (sheet rd σ (length G) B)
+    pub rows : allRows o ≡ rowsOf (framesFrom rd σ (length G) B)
     pub pending : st .pending ≡ 0
     pub discarded : st .discarded ≡ 0
 
-  at-end : (B : List (List ℕ)) (r : List ℕ) → Each W B → r ++ [] ≡ join B → Part B (length r) → (length r ≡ 0) × (B ≡ [])
+  at-end : (B : List (List ℕ)) (r : List ℕ) → Each W B → r ++ [] ≡ join B → Part B (length r)
+      → (length r ≡ 0) × (B ≡ [])
   at-end [] r g q p = (p, refl)
-  at-end (f ∷ B) r g q p = absurd (let no : ⊥ = omega (arith, length-append r [], ap length q, length-append f (join B)) in no)
+  at-end (f ∷ B) r g q p = absurd (let no : ⊥ = omega (
+    arith,
+    length-append r [],
+    ap length q,
+    length-append f (join B),
+  ) in no)
 
   abbrev pub All : List Event → Type 0
   All es =
-      (G B : List (List ℕ)) (r : List ℕ) (s : ℕ) (m : Option Mark) (st : AudioFrameSplitter) → Inv G B r s m st es → Carried st r es
+      (G B : List (List ℕ)) (r : List ℕ) (s : ℕ) (m : Option Mark) (st : AudioFrameSplitter) → Inv G B r s m st es
+      → Carried st r es
       → Owed (run st es) (final st es) G B s es
 
-  sheet-bytes : (j : ℕ) (X : List (List ℕ)) → bytesOf (sheet rd σ j X) ≡ join X
-  sheet-bytes j [] = refl
-  sheet-bytes j (f ∷ X) = ap (λ (l : List ℕ). f ++ l) (sheet-bytes (suc j) X)
+  frames-bytes : (j : ℕ) (X : List (List ℕ)) → bytesOf (framesFrom rd σ j X) ≡ join X
+  frames-bytes j [] = refl
+  frames-bytes j (f ∷ X) = ap (λ (l : List ℕ). f ++ l) (frames-bytes (suc j) X)
 
   says-of : (S R : List Pts) (J : ℕ) → drop J L ≡ S ++ R → Says n rd b τ J S
   says-of [] R J q = tt
   says-of (v ∷ S) R J q = (
-    ap (λ (k : ℕ). getD L k Absent) (sym (add-zero J)) ∙ sym (getD-drop J L 0 Absent) ∙ ap (λ (l : List Pts). getD l 0 Absent) q,
-    says-of S R (suc J) (ap (λ (k : ℕ). drop k L) (let z : suc J ≡ J + 1 = omega arith in z) ∙ sym (drop-drop 1 J L) ∙ ap (drop 1) q),
+    ap (λ (k : ℕ). getD L k Absent) (sym (add-zero J)) ∙ sym (getD-drop J L 0 Absent) ∙ ap
+        (λ (l : List Pts). getD l 0 Absent) q,
+    says-of S R (suc J) (ap (λ (k : ℕ). drop k L) (let z : suc J ≡ J + 1 = omega arith in z) ∙ sym (drop-drop 1 J L)
+        ∙ ap (drop 1) q),
   )
 
   -- a push within the limits
-  module _ (G B : List (List ℕ)) (r : List ℕ) (s : ℕ) (m : Option Mark) (st : AudioFrameSplitter) (e : Event) (es : List Event) (inv : Inv G B r s m st (e ∷ es))
+  module _ (G B : List (List ℕ)) (r : List ℕ) (s : ℕ) (m : Option Mark) (st : AudioFrameSplitter) (e : Event)
+      (es : List Event) (inv : Inv G B r s m st (e ∷ es))
       (ok : limit (length (tailAt A s)) e ≡ 0) where
     abbrev p : List ℕ
     p = e .payload
@@ -232,7 +260,8 @@ module _ (code : ℕ) (x : AudioSyntax) (known : syntaxOf code ≡ Known x) (b :
     X-fits = omega (arith, buf-length, length-append (r ++ p) fut, ap length buf-joins)
 
     cuts-are : walk n rd (r ++ p) 0 ≡ cutsOf n rd B X
-    cuts-are = cutting n rd some-need (added x) B (whole-of n rd b B (inv .good-B)) (r ++ p) fut buf-joins ∙ ap (cutsOf n rd B) buf-length
+    cuts-are = cutting n rd some-need (added x) B (whole-of n rd b B (inv .good-B)) (r ++ p) fut buf-joins ∙ ap
+        (cutsOf n rd B) buf-length
 
     begun-next : begun A s′ ≡ length G + begun B X
     begun-next = ap (begun A) (sym s′-is) ∙ begun-there G B r s m st (e ∷ es) inv X
@@ -249,7 +278,8 @@ module _ (code : ℕ) (x : AudioSyntax) (known : syntaxOf code ≡ Known x) (b :
         J-is : begun A s ≡ length G + begun B (length r)
         J-is = begun-here G B r s m st (e ∷ es) inv
 
-        cut-out : drop (length G + begun B (length r)) (take (length G + begun B X) (G ++ B)) ≡ drop (begun B (length r)) (take (begun B X) B)
+        cut-out : drop (length G + begun B (length r)) (take (length G + begun B X) (G ++ B)) ≡ drop
+            (begun B (length r)) (take (begun B X) B)
         cut-out = rw (take-append-add G B (begun B X)) (drop-append-add G (take (begun B X) B) (begun B (length r)))
 
         same : drop (begun A s) (take (begun A s′) A) ≡ drop (begun B (length r)) (take (begun B X) B)
@@ -266,7 +296,8 @@ module _ (code : ℕ) (x : AudioSyntax) (known : syntaxOf code ≡ Known x) (b :
 
     marks-next : drop (begun A s′) L ≡ stampsOf rd A s′ (within A s′ es) m′
     marks-next =
-        ap (λ (k : ℕ). drop k L) (let q : begun A s′ ≡ begun A s + length (stampsE (e .time) m (commencing rd A s s′)) = omega (arith, mono, stamps-count) in q)
+        ap (λ (k : ℕ). drop k L) (let q : begun A s′ ≡ begun A s + length
+        (stampsE (e .time) m (commencing rd A s s′)) = omega (arith, mono, stamps-count) in q)
         ∙ sym (drop-drop (length (stampsE (e .time) m (commencing rd A s s′))) (begun A s) L)
         ∙ ap (drop (length (stampsE (e .time) m (commencing rd A s s′)))) marks-here
         ∙ drop-append-seam (stampsE (e .time) m (commencing rd A s s′)) (stampsOf rd A s′ (within A s′ es) m′)
@@ -278,7 +309,7 @@ module _ (code : ℕ) (x : AudioSyntax) (known : syntaxOf code ≡ Known x) (b :
             ∙ length-drop (begun A s) (take (begun A s′) A)
             ∙ ap (λ (k : ℕ). k - begun A s) (length-take-le (begun A s′) A (begun-le A s′))
 
-    abbrev SH : Sheet
+    abbrev SH : Yield
     SH = stampCuts (length r) (clockWith (e .time) (st .timing)) (cutsOf n rd B X)
 
     lead : begun A s ≡ 0 → (n ≤ X) × Timed (e .time)
@@ -290,10 +321,12 @@ module _ (code : ℕ) (x : AudioSyntax) (known : syntaxOf code ≡ Known x) (b :
     stamps : AsOwed n rd b τ SH B X (length G) m′
     stamps =
         rw news-are
-        (stamping n rd b τ some-need B (inv .good-B) (length r) X (inv .piece) (omega arith) (e .time) (st .timing) m (length G) near
+        (stamping n rd b τ some-need B (inv .good-B) (length r) X (inv .piece) (omega arith) (e .time) (st .timing) m
+        (length G) near
         (subst (FineM m) J-is (inv .fine)) (λ z. lead (J-is ∙ z)) (inv .left)
         (subst (λ (J : ℕ). Says n rd b τ J (stampsE (e .time) m (News n rd b τ B (length r) X))) J-is
-        (rw news-are at (says-of (stampsE (e .time) m (commencing rd A s s′)) (stampsOf rd A s′ (within A s′ es) m′) (begun A s) marks-here))))
+        (rw news-are at (says-of (stampsE (e .time) m (commencing rd A s s′)) (stampsOf rd A s′ (within A s′ es) m′)
+        (begun A s) marks-here))))
       where
         J-is : begun A s ≡ length G + begun B (length r)
         J-is = begun-here G B r s m st (e ∷ es) inv
@@ -304,7 +337,9 @@ module _ (code : ℕ) (x : AudioSyntax) (known : syntaxOf code ≡ Known x) (b :
         which : (length r ≤ 0) ⊎ (0 < length r) → (length G ≤ 0) ⊎ (0 < length G) → admits x st p ≡ true
         which (inr h) g = admits-pending x st p (omega (arith, inv .pending))
         which (inl h) (inr g) = admits-locked x st p (inv .locked ∙ lt-ltb 0 (length G) g)
-        which (inl h) (inl g) = admits-head x st p (next-reads n rd some-need (added x) B (whole-of n rd b B (inv .good-B)) p fut q (st-starts .0))
+        which (inl h) (inl g) =
+            admits-head x st p (next-reads n rd some-need (added x) B (whole-of n rd b B (inv .good-B)) p fut q
+            (st-starts .0))
           where
             z : begun B (length r) ≡ 0
             z = ap (begun B) (let y : length r ≡ 0 = omega arith in y) ∙ begun-zero B
@@ -313,11 +348,17 @@ module _ (code : ℕ) (x : AudioSyntax) (known : syntaxOf code ≡ Known x) (b :
             st-starts = rw within-is at (inv .first (omega (arith, z, begun-here G B r s m st (e ∷ es) inv)))
 
             q : p ++ fut ≡ join B
-            q = ap (λ (l : List ℕ). l ++ p ++ fut) (sym (nil-of r (let y : length r ≡ 0 = omega arith in y))) ∙ buf-joins
+            q = ap (λ (l : List ℕ). l ++ p ++ fut) (sym (nil-of r (let y : length r ≡ 0 = omega arith in y)))
+                ∙ buf-joins
 
     -- a frame has begun by now
     not-first : begun A s′ ≡ 0 → Starts n (within A s′ es)
-    not-first z = absurd (let no : ⊥ = omega (arith, z, begun-next, begun-some B X X-fits (omega (arith, some-need, st-starts .0))) in no)
+    not-first z = absurd (let no : ⊥ = omega (
+      arith,
+      z,
+      begun-next,
+      begun-some B X X-fits (omega (arith, some-need, st-starts .0)),
+    ) in no)
       where
         st-starts : (n ≤ length (e .payload)) × Timed (e .time)
         st-starts = rw within-is at (inv .first (omega (arith, z, mono)))
@@ -336,7 +377,8 @@ module _ (code : ℕ) (x : AudioSyntax) (known : syntaxOf code ≡ Known x) (b :
     O = finish st e (cutsOf n rd B X) SH
 
     push-is₀ : push st e ≡ finish st e (cutsBy x st e) (stampCuts (st .pending) (clockOf st e) (cutsBy x st e))
-    push-is₀ = push-taken x st e (known-here G B r s m st (e ∷ es) inv) (refusal-here G B r s m st (e ∷ es) inv e ∙ ok) taken
+    push-is₀ =
+        push-taken x st e (known-here G B r s m st (e ∷ es) inv) (refusal-here G B r s m st (e ∷ es) inv e ∙ ok) taken
 
     had : Carried st r (e ∷ es) → take (st .pending) (e .pend) ≡ r
     had c = (rw push-is₀ at c) .0
@@ -354,7 +396,7 @@ module _ (code : ℕ) (x : AudioSyntax) (known : syntaxOf code ≡ Known x) (b :
     GW-length = length-append G Wh ∙ ap (λ (k : ℕ). length G + k) wh-length
 
     locked-next : (st .locked || anyFrame (SH .frames)) ≡ ltb 0 (length G + length Wh)
-    locked-next = rw (inv .locked, stamps .frames-are) (any-sheet (length G) Wh (length G))
+    locked-next = rw (inv .locked, stamps .frames-are) (any-frames (length G) Wh (length G))
 
     inv-next : Inv (G ++ Wh) B′ r′ s′ m′ (O .state) es
     inv-next =
@@ -375,13 +417,14 @@ module _ (code : ℕ) (x : AudioSyntax) (known : syntaxOf code ≡ Known x) (b :
           first = not-first;
         }
 
-    frames-are : SH .frames ≡ part (whole A s) (whole A s′) (sheet rd σ 0 A)
+    frames-are : SH .frames ≡ part (whole A s) (whole A s′) (framesFrom rd σ 0 A)
     frames-are =
         stamps .frames-are
-        ∙ sym (part-sheet rd σ G Wh B′)
-        ∙ (λ i. part (sym (whole-here G B r s m st (e ∷ es) inv) i) (sym (whole-next ∙ ap (λ (k : ℕ). length G + k) (sym wh-length)) i) (sheet rd σ 0 (A-is i)))
+        ∙ sym (part-frames rd σ G Wh B′)
+        ∙ (λ i. part (sym (whole-here G B r s m st (e ∷ es) inv) i)
+        (sym (whole-next ∙ ap (λ (k : ℕ). length G + k) (sym wh-length)) i) (framesFrom rd σ 0 (A-is i)))
 
-    seen-is : seen O ≡ seenTaken code A s e (part (whole A s) (whole A s′) (sheet rd σ 0 A))
+    seen-is : seen O ≡ seenTaken code A s e (part (whole A s) (whole A s′) (framesFrom rd σ 0 A))
     seen-is =
         λ i. view e (inv .code-is i) (frames-are i) (sym tail-next i) (inv-next .discarded i)
         ((locked-next ∙ ap (ltb 0) (sym (whole-next ∙ ap (λ (k : ℕ). length G + k) (sym wh-length)))) i)
@@ -390,26 +433,31 @@ module _ (code : ℕ) (x : AudioSyntax) (known : syntaxOf code ≡ Known x) (b :
     carried-next c = rw (take-append-seam r′ (drop (length r′) (e .pend))) at ((rw (push-is (had c)) at c) .1)
 
     bytes-here : take (length (bytesOf (SH .frames))) (O .out) ≡ join Wh
-    bytes-here = take-append-seam (bytesOf (SH .frames)) (drop (length (bytesOf (SH .frames))) (e .out)) ∙ ap bytesOf (stamps .frames-are) ∙ sheet-bytes (length G) Wh
+    bytes-here = take-append-seam (bytesOf (SH .frames)) (drop (length (bytesOf (SH .frames))) (e .out)) ∙ ap bytesOf
+        (stamps .frames-are) ∙ frames-bytes (length G) Wh
 
-    rows-here : take (length (SH .frames) * rowWidth) (O .rows) ≡ rowsOf (sheet rd σ (length G) Wh)
+    rows-here : take (length (SH .frames) * rowWidth) (O .rows) ≡ rowsOf (framesFrom rd σ (length G) Wh)
     rows-here =
-        take-at (rowsOf (SH .frames)) (drop (length (rowsOf (SH .frames))) (e .rows)) (length (SH .frames) * rowWidth) (rows-size (SH .frames))
+        take-at (rowsOf (SH .frames)) (drop (length (rowsOf (SH .frames))) (e .rows)) (length (SH .frames) * rowWidth)
+        (rows-size (SH .frames))
         ∙ ap rowsOf (stamps .frames-are)
 
     step-yes : Carried st r (e ∷ es) → All es → Owed (run st (e ∷ es)) (final st (e ∷ es)) G B s (e ∷ es)
     step-yes c ih =
-        subst (λ (o : Outcome). Owed (o ∷ run (o .state) es) (final (o .state) es) G B s (e ∷ es)) (sym (push-is (had c)))
+        subst (λ (o : Outcome). Owed (o ∷ run (o .state) es) (final (o .state) es) G B s (e ∷ es))
+        (sym (push-is (had c)))
         (record {
-          each-push = ap₂ (λ (o : Seen) (os : List Seen). o ∷ os) seen-is (N .each-push) ∙ sym (owed-yes A s e es code F ok);
-          bytes = ap₂ (λ (k l : List ℕ). k ++ l) bytes-here (N .bytes) ∙ sym (join-append Wh B′) ∙ ap join (take-append-drop (whole B X) B);
+          each-push = ap₂ (λ (o : Seen) (os : List Seen). o ∷ os) seen-is (N .each-push) ∙ sym
+              (owed-yes A s e es code F ok);
+          bytes = ap₂ (λ (k l : List ℕ). k ++ l) bytes-here (N .bytes) ∙ sym (join-append Wh B′) ∙ ap join
+              (take-append-drop (whole B X) B);
           rows =
               ap₂ (λ (k l : List ℤ). k ++ l) rows-here (N .rows)
-              ∙ sym (rows-append (sheet rd σ (length G) Wh) (sheet rd σ (length (G ++ Wh)) B′))
+              ∙ sym (rows-append (framesFrom rd σ (length G) Wh) (framesFrom rd σ (length (G ++ Wh)) B′))
               ∙ ap rowsOf
-              (ap (λ (k : ℕ). sheet rd σ (length G) Wh ++ sheet rd σ k B′) (length-append G Wh)
-              ∙ sym (sheet-append rd σ (length G) Wh B′)
-              ∙ ap (sheet rd σ (length G)) (take-append-drop (whole B X) B));
+              (ap (λ (k : ℕ). framesFrom rd σ (length G) Wh ++ framesFrom rd σ k B′) (length-append G Wh)
+              ∙ sym (frames-append rd σ (length G) Wh B′)
+              ∙ ap (framesFrom rd σ (length G)) (take-append-drop (whole B X) B));
           pending = N .pending;
           discarded = N .discarded;
         })
@@ -418,7 +466,8 @@ module _ (code : ℕ) (x : AudioSyntax) (known : syntaxOf code ≡ Known x) (b :
         N = ih (G ++ Wh) B′ r′ s′ m′ (O .state) inv-next (carried-next c)
 
   -- a push outside the limits
-  module _ (G B : List (List ℕ)) (r : List ℕ) (s : ℕ) (m : Option Mark) (st : AudioFrameSplitter) (e : Event) (es : List Event) (inv : Inv G B r s m st (e ∷ es))
+  module _ (G B : List (List ℕ)) (r : List ℕ) (s : ℕ) (m : Option Mark) (st : AudioFrameSplitter) (e : Event)
+      (es : List Event) (inv : Inv G B r s m st (e ∷ es))
       (k : ℕ) (bad : limit (length (tailAt A s)) e ≡ suc k) where
     same-within : within A s (e ∷ es) ≡ within A s es
     same-within = within-no A s e es k bad
@@ -443,7 +492,8 @@ module _ (code : ℕ) (x : AudioSyntax) (known : syntaxOf code ≡ Known x) (b :
         }
 
     refused-is : push st e ≡ stay (refused (suc k)) st e
-    refused-is = push-refused x st e (known-here G B r s m st (e ∷ es) inv) k (refusal-here G B r s m st (e ∷ es) inv e ∙ bad)
+    refused-is = push-turned x st e (known-here G B r s m st (e ∷ es) inv) k
+        (refusal-here G B r s m st (e ∷ es) inv e ∙ bad)
 
     seen-same : seen (stay (refused (suc k)) st e) ≡ seenRefused code A s (suc k) e
     seen-same =
@@ -462,7 +512,8 @@ module _ (code : ℕ) (x : AudioSyntax) (known : syntaxOf code ≡ Known x) (b :
     step-no c ih =
         subst (λ (o : Outcome). Owed (o ∷ run (o .state) es) (final (o .state) es) G B s (e ∷ es)) (sym refused-is)
         (record {
-          each-push = ap₂ (λ (o : Seen) (os : List Seen). o ∷ os) seen-same (N .each-push) ∙ sym (owed-no A s e es code F k bad);
+          each-push = ap₂ (λ (o : Seen) (os : List Seen). o ∷ os) seen-same (N .each-push) ∙ sym
+              (owed-no A s e es code F k bad);
           bytes = N .bytes;
           rows = N .rows;
           pending = N .pending;
@@ -477,7 +528,7 @@ module _ (code : ℕ) (x : AudioSyntax) (known : syntaxOf code ≡ Known x) (b :
       record {
         each-push = refl;
         bytes = ap join (sym (E .1));
-        rows = ap (λ (l : List (List ℕ)). rowsOf (sheet rd σ (length G) l)) (sym (E .1));
+        rows = ap (λ (l : List (List ℕ)). rowsOf (framesFrom rd σ (length G) l)) (sym (E .1));
         pending = inv .pending ∙ E .0;
         discarded = inv .discarded;
       }
@@ -486,6 +537,7 @@ module _ (code : ℕ) (x : AudioSyntax) (known : syntaxOf code ≡ Known x) (b :
       E = at-end B r (inv .good-B) (inv .joins) (inv .piece)
   all-pushes (e ∷ es) G B r s m st inv c = go (limit (length (tailAt A s)) e) refl (all-pushes es)
     where
-      go : (k : ℕ) → limit (length (tailAt A s)) e ≡ k → All es → Owed (run st (e ∷ es)) (final st (e ∷ es)) G B s (e ∷ es)
+      go : (k : ℕ) → limit (length (tailAt A s)) e ≡ k → All es
+          → Owed (run st (e ∷ es)) (final st (e ∷ es)) G B s (e ∷ es)
       go zero ok ih = step-yes G B r s m st e es inv ok c ih
       go (suc k) bad ih = step-no G B r s m st e es inv k bad c ih

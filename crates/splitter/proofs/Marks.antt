@@ -1,5 +1,6 @@
--- THE DEMAND'S RULE FRAME BY FRAME. The demand says each stamp by P and n; here the same stamps come one after the other, each from the
--- mark that the frame before left. It knows the demand and not the splitter; `Literal` shows that both ways agree. Assumes nothing.
+-- THE DEMAND'S RULE FRAME BY FRAME. The demand says each stamp by P and n; here the same stamps come one after the
+-- other, each from the mark that the frame before left. It knows the demand and not the splitter; `Literal` shows that
+-- both ways agree. Assumes nothing.
 use mathlib.Core.Path.{_≡_, refl, ap}
 use mathlib.Core.Option.{Option, none, some}
 use mathlib.Core.List.{List, [], _∷_, _++_}
@@ -10,7 +11,7 @@ use Rattle.heads.specs.declared.info.AudioFrameInfo.{AudioFrameInfo}
 use Rattle.splitter.specs.Cut.{Reader}
 use Rattle.splitter.specs.Stamp.{Frame}
 use Rattle.splitter.specs.Push.{Event}
-use Rattle.splitter.specs.Demand.{infoOr, begun, within, sheet}
+use Rattle.splitter.specs.Demand.{infoOr, begun, within, framesFrom}
 use Rattle.splitter.specs.declared.timing.Pts.{Pts}
 use Rattle.splitter.specs.declared.timing.Pts.the-variants.{At, Absent}
 
@@ -70,4 +71,4 @@ module _ (rd : Reader) where
 
   -- all of A's frames, with their stamps worked out so
   abbrev pub stampedRun : List (List ℕ) → List Event → List Frame
-  stampedRun A evs = sheet rd (λ j i. getD (stampsOf A 0 (within A 0 evs) none) j Absent) 0 A
+  stampedRun A evs = framesFrom rd (λ j i. getD (stampsOf A 0 (within A 0 evs) none) j Absent) 0 A

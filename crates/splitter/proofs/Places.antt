@@ -89,7 +89,12 @@ begun-mono [] c x h = omega arith
 begun-mono (f ∷ B) zero x h = omega (arith, begun-zero (f ∷ B))
 begun-mono (f ∷ B) (suc c) zero h = absurd (omega arith)
 begun-mono (f ∷ B) (suc c) (suc x) h =
-    omega (arith, begun-yes f B (suc c) (omega arith), begun-yes f B (suc x) (omega arith), begun-mono B (suc c - length f) (suc x - length f) (omega arith))
+    omega (
+      arith,
+      begun-yes f B (suc c) (omega arith),
+      begun-yes f B (suc x) (omega arith),
+      begun-mono B (suc c - length f) (suc x - length f) (omega arith),
+    )
 
 -- the bytes of two lists of frames, and how many
 pub join-append : (G B : List (List ℕ)) → join (G ++ B) ≡ join G ++ join B
@@ -103,7 +108,13 @@ join-length G B = ap length (join-append G B) ∙ length-append (join G) (join B
 pub tail-after : (G B : List (List ℕ)) (x : ℕ) → tailAt (G ++ B) (length (join G) + x) ≡ tailAt B x
 unfolding tailAt
 tail-after G B x =
-    rw (whole-after G B x, take-append-add G B (whole B x), join-append G B, take-append-add (join G) (join B) x, join-length G (take (whole B x) B))
+    rw (
+      whole-after G B x,
+      take-append-add G B (whole B x),
+      join-append G B,
+      take-append-add (join G) (join B) x,
+      join-length G (take (whole B x) B),
+    )
     (drop-append-add (join G) (take x (join B)) (length (join (take (whole B x) B))))
 
 -- a part of the first frame is what came after the last whole one
@@ -117,7 +128,8 @@ module _ (n : ℕ) (rd : Reader) where
   rest B x = remainder (cutsOf n rd B x)
 
   -- the cuts where the first frame is whole, and where it is not
-  pub cuts-yes : (f : List ℕ) (B : List (List ℕ)) (x : ℕ) → length f ≤ x → cutsOf n rd (f ∷ B) x ≡ given (infoOr (rd f)) f ∷ cutsOf n rd B (x - length f)
+  pub cuts-yes : (f : List ℕ) (B : List (List ℕ)) (x : ℕ) → length f ≤ x
+      → cutsOf n rd (f ∷ B) x ≡ given (infoOr (rd f)) f ∷ cutsOf n rd B (x - length f)
   cuts-yes f B x h = rw (le-leb (length f) x h)
 
   pub cuts-no : (f : List ℕ) (B : List (List ℕ)) (x : ℕ) → x < length f → cutsOf n rd (f ∷ B) x ≡ lastCut n rd f x
@@ -154,54 +166,79 @@ module _ (n : ℕ) (rd : Reader) where
   no-loss [] x = refl
   no-loss (f ∷ B) x = pick (le-or-lt (length f) x) (no-loss B (x - length f))
     where
-      pick : (length f ≤ x) ⊎ (x < length f) → losses (cutsOf n rd B (x - length f)) ≡ 0 → losses (cutsOf n rd (f ∷ B) x) ≡ 0
+      pick : (length f ≤ x) ⊎ (x < length f) → losses (cutsOf n rd B (x - length f)) ≡ 0
+          → losses (cutsOf n rd (f ∷ B) x) ≡ 0
       pick (inl h) ih = rw (cuts-yes f B x h) ih
       pick (inr h) ih = rw (cuts-no f B x h) (loss-last f x)
 
   -- what is kept goes on as the frames that are not whole yet
-  pub rest-joins : (B : List (List ℕ)) (buf fut : List ℕ) → buf ++ fut ≡ join B → rest B (length buf) ++ fut ≡ join (drop (whole B (length buf)) B)
+  pub rest-joins : (B : List (List ℕ)) (buf fut : List ℕ) → buf ++ fut ≡ join B
+      → rest B (length buf) ++ fut ≡ join (drop (whole B (length buf)) B)
   rest-joins [] [] fut q = q
   rest-joins [] (b ∷ buf) fut q = absurd (omega (arith, ap length q))
-  rest-joins (f ∷ B) buf fut q = pick (le-or-lt (length f) (length buf)) (λ h. rest-joins B (drop (length f) buf) fut (back-of buf fut f (join B) q h))
+  rest-joins (f ∷ B) buf fut q =
+      pick (le-or-lt (length f) (length buf))
+      (λ h. rest-joins B (drop (length f) buf) fut (back-of buf fut f (join B) q h))
     where
       pick : (length f ≤ length buf) ⊎ (length buf < length f)
-          → (length f ≤ length buf → rest B (length (drop (length f) buf)) ++ fut ≡ join (drop (whole B (length (drop (length f) buf))) B))
+          → (length f ≤ length buf → rest B (length (drop (length f) buf)) ++ fut ≡ join
+          (drop (whole B (length (drop (length f) buf))) B))
           → rest (f ∷ B) (length buf) ++ fut ≡ join (drop (whole (f ∷ B) (length buf)) (f ∷ B))
-      pick (inl h) ih = rw (rest-yes f B (length buf) h, whole-yes f B (length buf) h) (rw (length-drop (length f) buf) at (ih h))
+      pick (inl h) ih = rw (
+        rest-yes f B (length buf) h,
+        whole-yes f B (length buf) h,
+      ) (rw (length-drop (length f) buf) at (ih h))
       pick (inr h) ih =
           rw (rest-no f B (length buf) h, whole-no f B (length buf) h)
-          (ap (λ (l : List ℕ). l ++ fut) (ap (take (length buf)) (front-of f (join B) buf fut (sym q) (omega arith)) ∙ take-append-seam buf (drop (length buf) f)) ∙ q)
+          (ap (λ (l : List ℕ). l ++ fut) (ap (take (length buf)) (front-of f (join B) buf fut (sym q) (omega arith))
+          ∙ take-append-seam buf (drop (length buf) f)) ∙ q)
 
   -- and is a part of the first of them
   pub rest-part : (B : List (List ℕ)) (x : ℕ) → x ≤ length (join B) → Part (drop (whole B x) B) (length (rest B x))
   rest-part [] x h = refl
-  rest-part (f ∷ B) x h = pick (le-or-lt (length f) x) (λ g. rest-part B (x - length f) (omega (arith, length-append f (join B))))
+  rest-part (f ∷ B) x h =
+      pick (le-or-lt (length f) x) (λ g. rest-part B (x - length f) (omega (arith, length-append f (join B))))
     where
-      pick : (length f ≤ x) ⊎ (x < length f) → (length f ≤ x → Part (drop (whole B (x - length f)) B) (length (rest B (x - length f))))
+      pick : (length f ≤ x) ⊎ (x < length f)
+          → (length f ≤ x → Part (drop (whole B (x - length f)) B) (length (rest B (x - length f))))
           → Part (drop (whole (f ∷ B) x) (f ∷ B)) (length (rest (f ∷ B) x))
       pick (inl g) ih = rw (rest-yes f B x g, whole-yes f B x g) (ih g)
       pick (inr g) ih = rw (rest-no f B x g, whole-no f B x g) (omega (arith, length-take-le x f (omega arith)))
 
   -- the whole frames and what is kept make up the x bytes
-  pub rest-size : (B : List (List ℕ)) (x : ℕ) → x ≤ length (join B) → length (join (take (whole B x) B)) + length (rest B x) ≡ x
+  pub rest-size : (B : List (List ℕ)) (x : ℕ) → x ≤ length (join B)
+      → length (join (take (whole B x) B)) + length (rest B x) ≡ x
   rest-size [] x h = omega arith
-  rest-size (f ∷ B) x h = pick (le-or-lt (length f) x) (λ g. rest-size B (x - length f) (omega (arith, length-append f (join B))))
+  rest-size (f ∷ B) x h =
+      pick (le-or-lt (length f) x) (λ g. rest-size B (x - length f) (omega (arith, length-append f (join B))))
     where
-      pick : (length f ≤ x) ⊎ (x < length f) → (length f ≤ x → length (join (take (whole B (x - length f)) B)) + length (rest B (x - length f)) ≡ x - length f)
+      pick : (length f ≤ x) ⊎ (x < length f)
+          → (length f ≤ x → length (join (take (whole B (x - length f)) B)) + length
+          (rest B (x - length f)) ≡ x - length f)
           → length (join (take (whole (f ∷ B) x) (f ∷ B))) + length (rest (f ∷ B) x) ≡ x
       pick (inl g) ih =
-          rw (rest-yes f B x g, whole-yes f B x g) (omega (arith, ih g, length-append f (join (take (whole B (x - length f)) B))))
+          rw (rest-yes f B x g, whole-yes f B x g) (omega (
+            arith,
+            ih g,
+            length-append f (join (take (whole B (x - length f)) B)),
+          ))
       pick (inr g) ih = rw (rest-no f B x g, whole-no f B x g) (omega (arith, length-take-le x f (omega arith)))
 
   -- what is kept is what came after the last whole frame
   pub tail-rest : (B : List (List ℕ)) (x : ℕ) → x ≤ length (join B) → tailAt B x ≡ rest B x
   unfolding tailAt
   tail-rest [] x h = take-nil x
-  tail-rest (f ∷ B) x h = pick (le-or-lt (length f) x) (λ g. tail-rest B (x - length f) (omega (arith, length-append f (join B))))
+  tail-rest (f ∷ B) x h =
+      pick (le-or-lt (length f) x) (λ g. tail-rest B (x - length f) (omega (arith, length-append f (join B))))
     where
-      pick : (length f ≤ x) ⊎ (x < length f) → (length f ≤ x → tailAt B (x - length f) ≡ rest B (x - length f)) → tailAt (f ∷ B) x ≡ rest (f ∷ B) x
-      pick (inl g) ih = rw (rest-yes f B x g, whole-yes f B x g) (rw (fr, length-append) (drop-append-add f (take (x - length f) (join B)) (length (join (take (whole B (x - length f)) B))) ∙ ih g))
+      pick : (length f ≤ x) ⊎ (x < length f) → (length f ≤ x → tailAt B (x - length f) ≡ rest B (x - length f))
+          → tailAt (f ∷ B) x ≡ rest (f ∷ B) x
+      pick (inl g) ih =
+          rw (rest-yes f B x g, whole-yes f B x g)
+          (rw (fr, length-append) (drop-append-add f (take (x - length f) (join B))
+          (length (join (take (whole B (x - length f)) B))) ∙ ih g))
         where
           fr : take x (f ++ join B) ≡ f ++ take (x - length f) (join B)
-          fr = ap (λ (k : ℕ). take k (f ++ join B)) (let e : x ≡ length f + (x - length f) = omega arith in e) ∙ take-append-add f (join B) (x - length f)
+          fr = ap (λ (k : ℕ). take k (f ++ join B)) (let e : x ≡ length f + (x - length f) = omega arith in e)
+              ∙ take-append-add f (join B) (x - length f)
       pick (inr g) ih = rw (rest-no f B x g, whole-no f B x g) (take-append-le x f (join B) (omega arith))

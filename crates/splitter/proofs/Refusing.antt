@@ -1,5 +1,5 @@
--- What turns a call down, and what stays then: a call that is refused, or takes nothing, hands back the state and every buffer as they were,
--- and its number is one of document 01's table. Assumes nothing.
+-- What turns a call down, and what stays then: a call that is refused, or takes nothing, hands back the state and every
+-- buffer as they were, and its number is one of document 01's table. Assumes nothing.
 use mathlib.Core.Path.{_≡_, refl, sym, _∙_, ap}
 use mathlib.Core.Bool.{Bool, true, false, cond}
 use mathlib.Core.Logic.{_⊎_, inl, inr}
@@ -15,6 +15,7 @@ use Rattle.heads.specs.declared.syntax.AudioSyntax.{AudioSyntax}
 use Rattle.heads.specs.declared.syntax.CodedSyntax.{CodedSyntax}
 use Rattle.heads.specs.declared.syntax.CodedSyntax.the-variants.{Known, Refused}
 use Rattle.heads.proofs.Promise.{code-number, uncoded}
+use Rattle.splitter.specs.Bounds.{payloadMost}
 use Rattle.splitter.specs.Stamp.{farPts}
 use Rattle.splitter.specs.Answer.{refused, done}
 use Rattle.splitter.specs.Push.{Event, Outcome, firstOf, badState, badCount, tight, refusalOf, refusal, stay, admits, pushTaken, pushBy, pushIn, push}
@@ -37,14 +38,16 @@ module _ (s : AudioFrameSplitter) (e : Event) where
   stayed m k a = ap (λ (n : ℕ). stay (refused n) s e) (number-said m k a)
 
   -- having taken or given nothing, it says so
-  idle : (r b : ℕ) → done false 0 0 ≡ done false r b → (stay (done false 0 0) s e ≡ stay (done false 0 0) s e) × (r ≡ 0) × (b ≡ 0)
+  idle : (r b : ℕ) → done false 0 0 ≡ done false r b
+      → (stay (done false 0 0) s e ≡ stay (done false 0 0) s e) × (r ≡ 0) × (b ≡ 0)
   idle r b a = (refl, cc, cc)
 
   -- ---- push
 
   -- its cases with the number: 7, the first ground's, or none
   push-numbers : (P : Outcome → Type 0) → ((g : Refusal) → syntaxOf (s .syntax) ≡ Refused g → P (stay (refused 7) s e))
-      → ((x : AudioSyntax) → syntaxOf (s .syntax) ≡ Known x → (k : ℕ) → refusal s e ≡ suc k → P (stay (refused (suc k)) s e))
+      → ((x : AudioSyntax) → syntaxOf (s .syntax) ≡ Known x → (k : ℕ) → refusal s e ≡ suc k → P
+      (stay (refused (suc k)) s e))
       → ((o : Outcome) (t : Bool) (r b : ℕ) → o .answer ≡ done t r b → P o) → P (push s e)
   unfolding push
   push-numbers P unknown turned other = go (syntaxOf (s .syntax)) refl
@@ -64,7 +67,8 @@ module _ (s : AudioFrameSplitter) (e : Event) where
   -- the grounds' numbers; 8 is the state's own
   grounds : (k : ℕ) → refusal s e ≡ suc k → (badState s ≡ false → 9 ≤ suc k) × (8 ≤ suc k) × (suc k ≤ 12)
   unfolding refusalOf
-  grounds k q = go (badState s) (ltb 65535 (length (e .payload))) (farPts (e .time)) (badCount s) (tight (s .pending) e) q
+  grounds k q =
+      go (badState s) (ltb payloadMost (length (e .payload))) (farPts (e .time)) (badCount s) (tight (s .pending) e) q
     where
       go : (a b c d f : Bool) → firstOf a 8 (firstOf b 9 (firstOf c 10 (firstOf d 11 (firstOf f 12 0)))) ≡ suc k
           → (a ≡ false → 9 ≤ suc k) × (8 ≤ suc k) × (suc k ≤ 12)
@@ -80,13 +84,19 @@ module _ (s : AudioFrameSplitter) (e : Event) where
   push-refused k =
       push-numbers (λ o. o .answer ≡ refused k → (o ≡ stay (refused k) s e) × (7 ≤ k) × (k ≤ 12))
       (λ g q a. (stayed 7 k a, omega (arith, number-said 7 k a), omega (arith, number-said 7 k a)))
-      (λ x known j q a. (stayed (suc j) k a, omega (arith, number-said (suc j) k a, (grounds j q) .1), omega (arith, number-said (suc j) k a, (grounds j q) .2)))
+      (λ x known j q a. (
+        stayed (suc j) k a,
+        omega (arith, number-said (suc j) k a, (grounds j q) .1),
+        omega (arith, number-said (suc j) k a, (grounds j q) .2),
+      ))
       (λ o t r b d a. absurd (taken-clash k o t r b d a))
 
   -- So does one that is not taken, and it says that it wrote nothing.
-  pub push-not-taken : (r b : ℕ) → (push s e) .answer ≡ done false r b → (push s e ≡ stay (done false 0 0) s e) × (r ≡ 0) × (b ≡ 0)
+  pub push-not-taken : (r b : ℕ) → (push s e) .answer ≡ done false r b
+      → (push s e ≡ stay (done false 0 0) s e) × (r ≡ 0) × (b ≡ 0)
   push-not-taken r b =
-      push-cases s e (λ o. o .answer ≡ done false r b → (o ≡ stay (done false 0 0) s e) × (r ≡ 0) × (b ≡ 0)) (λ k a. absurd (clash (suc k) false r b a))
+      push-cases s e (λ o. o .answer ≡ done false r b → (o ≡ stay (done false 0 0) s e) × (r ≡ 0) × (b ≡ 0))
+      (λ k a. absurd (clash (suc k) false r b a))
       (λ x known q t a. idle r b a)
       (λ x known q t a. absurd (idle-clash r b _ _ (sym a)))
 
@@ -104,13 +114,17 @@ module _ (s : AudioFrameSplitter) (e : Event) where
     push-sound sound k =
         push-numbers (λ o. o .answer ≡ refused k → (9 ≤ k) × (k ≤ 12))
         (λ g q a. absurd (known-clash x g known q))
-        (λ y q j h a. (omega (arith, number-said (suc j) k a, (grounds j h) .0 sound), omega (arith, number-said (suc j) k a, (grounds j h) .2)))
+        (λ y q j h a. (
+          omega (arith, number-said (suc j) k a, (grounds j h) .0 sound),
+          omega (arith, number-said (suc j) k a, (grounds j h) .2),
+        ))
         (λ o t r b d a. absurd (taken-clash k o t r b d a))
 
   -- ---- flush
 
   flush-numbers : (P : Outcome → Type 0) → ((g : Refusal) → syntaxOf (s .syntax) ≡ Refused g → P (stay (refused 7) s e))
-      → ((x : AudioSyntax) → syntaxOf (s .syntax) ≡ Known x → (k : ℕ) → flushRefusal s e ≡ suc k → P (stay (refused (suc k)) s e))
+      → ((x : AudioSyntax) → syntaxOf (s .syntax) ≡ Known x → (k : ℕ) → flushRefusal s e ≡ suc k → P
+      (stay (refused (suc k)) s e))
       → ((o : Outcome) (t : Bool) (r b : ℕ) → o .answer ≡ done t r b → P o) → P (flush s e)
   unfolding flush
   flush-numbers P unknown turned other = go (syntaxOf (s .syntax)) refl
@@ -129,7 +143,8 @@ module _ (s : AudioFrameSplitter) (e : Event) where
 
   flush-grounds : (k : ℕ) → flushRefusal s e ≡ suc k → (badState s ≡ false → suc k ≡ 12) × ((suc k ≡ 8) ⊎ (suc k ≡ 12))
   unfolding flushRefusalOf
-  flush-grounds k q = go (badState s) (flushTightOf (s .pending) (length (e .pend)) (length (e .out)) (length (e .rows))) q
+  flush-grounds k q =
+      go (badState s) (flushTightOf (s .pending) (length (e .pend)) (length (e .out)) (length (e .rows))) q
     where
       go : (a b : Bool) → firstOf a 8 (firstOf b 12 0) ≡ suc k → (a ≡ false → suc k ≡ 12) × ((suc k ≡ 8) ⊎ (suc k ≡ 12))
       go true b q = (λ z. absurd (true-false z), inl (sym q))
@@ -137,7 +152,8 @@ module _ (s : AudioFrameSplitter) (e : Event) where
       go false false q = absurd (let no : ⊥ = omega arith in no)
 
   -- The same of a flush; its numbers are 7, 8 and 12.
-  pub flush-refused : (k : ℕ) → (flush s e) .answer ≡ refused k → (flush s e ≡ stay (refused k) s e) × ((k ≡ 7) ⊎ (k ≡ 8) ⊎ (k ≡ 12))
+  pub flush-refused : (k : ℕ) → (flush s e) .answer ≡ refused k
+      → (flush s e ≡ stay (refused k) s e) × ((k ≡ 7) ⊎ (k ≡ 8) ⊎ (k ≡ 12))
   flush-refused k =
       flush-numbers (λ o. o .answer ≡ refused k → (o ≡ stay (refused k) s e) × ((k ≡ 7) ⊎ (k ≡ 8) ⊎ (k ≡ 12)))
       (λ g q a. (stayed 7 k a, inl (sym (number-said 7 k a))))
@@ -149,14 +165,17 @@ module _ (s : AudioFrameSplitter) (e : Event) where
       either e (inr h) = inr (sym e ∙ h)
 
   -- one that gives no frame leaves all as it was
-  pub flush-no-frame : (r b : ℕ) → (flush s e) .answer ≡ done false r b → (flush s e ≡ stay (done false 0 0) s e) × (r ≡ 0) × (b ≡ 0)
+  pub flush-no-frame : (r b : ℕ) → (flush s e) .answer ≡ done false r b
+      → (flush s e ≡ stay (done false 0 0) s e) × (r ≡ 0) × (b ≡ 0)
   flush-no-frame r b =
-      flush-cases s e (λ o. o .answer ≡ done false r b → (o ≡ stay (done false 0 0) s e) × (r ≡ 0) × (b ≡ 0)) (λ k a. absurd (clash (suc k) false r b a))
+      flush-cases s e (λ o. o .answer ≡ done false r b → (o ≡ stay (done false 0 0) s e) × (r ≡ 0) × (b ≡ 0))
+      (λ k a. absurd (clash (suc k) false r b a))
       (λ x g known q h a. idle r b a)
       (λ x i known q h a. absurd (idle-clash r b _ _ (sym a)))
 
   -- of a code that is known and a state with no ground for 8, the number is 12
-  pub flush-sound : (x : AudioSyntax) → syntaxOf (s .syntax) ≡ Known x → badState s ≡ false → (k : ℕ) → (flush s e) .answer ≡ refused k → k ≡ 12
+  pub flush-sound : (x : AudioSyntax) → syntaxOf (s .syntax) ≡ Known x → badState s ≡ false → (k : ℕ)
+      → (flush s e) .answer ≡ refused k → k ≡ 12
   flush-sound x known sound k =
       flush-numbers (λ o. o .answer ≡ refused k → k ≡ 12)
       (λ g q a. absurd (known-clash x g known q))

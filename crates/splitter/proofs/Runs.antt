@@ -1,5 +1,5 @@
--- A run of bytes given up because no head reads at any of their places: what it leaves of the count, the remainder and the stamps. Assumes
--- nothing.
+-- A run of bytes given up because no head reads at any of their places: what it leaves of the count, the remainder and
+-- the stamps. Assumes nothing.
 use mathlib.Core.Path.{_≡_, refl, sym, _∙_, ap}
 use mathlib.Core.Bool.{true}
 use mathlib.Core.List.{List, [], _∷_, _++_, map}
@@ -15,6 +15,7 @@ use Rattle.splitter.specs.Cut.{Reader, Cut, lost, unread, walk, remainde
 use Rattle.splitter.specs.Stamp.{stampCuts, voided}
 use Rattle.splitter.specs.declared.timing.Clock.{Clock}
 use Rattle.splitter.proofs.Cutting.{walk-unread}
+use Rattle.splitter.proofs.Clocks.{voided-again}
 
 -- the test says what the layer below says
 pub unread-test : (h : Head) → Unread h → unread h ≡ true
@@ -35,12 +36,8 @@ pub remainder-all : (bs : List ℕ) (cs : List Cut) → remainder (lostAll bs ++
 remainder-all [] cs = refl
 remainder-all (b ∷ bs) cs = remainder-all bs cs
 
--- a pending stamp is voided once
-pub voided-again : (c : Clock) → voided true (voided true c) ≡ voided true c
-unfolding voided
-voided-again c = refl
-
-stamps-voided : (bs : List ℕ) (cs : List Cut) (m : ℕ) (c : Clock) → stampCuts m (voided true c) (lostAll bs ++ cs) ≡ stampCuts (m - length bs) (voided true c) cs
+stamps-voided : (bs : List ℕ) (cs : List Cut) (m : ℕ) (c : Clock)
+    → stampCuts m (voided true c) (lostAll bs ++ cs) ≡ stampCuts (m - length bs) (voided true c) cs
 stamps-voided [] cs m c = rw (sub-zero m)
 stamps-voided (b ∷ bs) cs m c =
     ap (λ (k : Clock). stampCuts (m - 1) k (lostAll bs ++ cs)) (voided-again c)
@@ -48,9 +45,11 @@ stamps-voided (b ∷ bs) cs m c =
     ∙ ap (λ (k : ℕ). stampCuts k (voided true c) cs) (omega arith)
 
 -- one at least voids the pending stamp, and none brings a frame
-pub stamps-all : (bs : List ℕ) (cs : List Cut) (m : ℕ) (c : Clock) → 0 < length bs → stampCuts m c (lostAll bs ++ cs) ≡ stampCuts (m - length bs) (voided true c) cs
+pub stamps-all : (bs : List ℕ) (cs : List Cut) (m : ℕ) (c : Clock) → 0 < length bs
+    → stampCuts m c (lostAll bs ++ cs) ≡ stampCuts (m - length bs) (voided true c) cs
 stamps-all [] cs m c h = absurd (let no : ⊥ = omega arith in no)
-stamps-all (b ∷ bs) cs m c h = stamps-voided bs cs (m - 1) c ∙ ap (λ (k : ℕ). stampCuts k (voided true c) cs) (omega arith)
+stamps-all (b ∷ bs) cs m c h =
+    stamps-voided bs cs (m - 1) c ∙ ap (λ (k : ℕ). stampCuts k (voided true c) cs) (omega arith)
 
 module _ (n : ℕ) (rd : Reader) where
   -- at each of the first k places of l the need is left and no head reads
@@ -58,7 +57,8 @@ module _ (n : ℕ) (rd : Reader) where
   Silent l k = (j : ℕ) → j < k → (n ≤ length (drop j l)) × (unread (rd (drop j l)) ≡ true)
 
   -- the search gives up those k bytes
-  pub walk-unread-many : 0 < n → (k : ℕ) (l : List ℕ) → Silent l k → walk n rd l 0 ≡ lostAll (take k l) ++ walk n rd (drop k l) 0
+  pub walk-unread-many : 0 < n → (k : ℕ) (l : List ℕ) → Silent l k
+      → walk n rd l 0 ≡ lostAll (take k l) ++ walk n rd (drop k l) 0
   walk-unread-many z zero l s = refl
   walk-unread-many z (suc k) [] s = absurd (let no : ⊥ = omega (arith, (s 0 (omega arith)) .0) in no)
   walk-unread-many z (suc k) (b ∷ l) s =
@@ -83,10 +83,12 @@ module _ (n : ℕ) (rd : Reader) where
 
     -- they leave what is kept alone
     pub unread-remainder : remainder (walk n rd l 0) ≡ remainder (walk n rd (drop k l) 0)
-    unread-remainder = ap remainder (walk-unread-many some-need k l s) ∙ remainder-all (take k l) (walk n rd (drop k l) 0)
+    unread-remainder = ap remainder (walk-unread-many some-need k l s) ∙ remainder-all (take k l)
+        (walk n rd (drop k l) 0)
 
     -- they void the pending stamp and bring no frame
-    pub unread-stamps : 0 < k → (m : ℕ) (c : Clock) → stampCuts m c (walk n rd l 0) ≡ stampCuts (m - k) (voided true c) (walk n rd (drop k l) 0)
+    pub unread-stamps : 0 < k → (m : ℕ) (c : Clock)
+        → stampCuts m c (walk n rd l 0) ≡ stampCuts (m - k) (voided true c) (walk n rd (drop k l) 0)
     unread-stamps p m c =
         ap (stampCuts m c) (walk-unread-many some-need k l s)
         ∙ stamps-all (take k l) (walk n rd (drop k l) 0) m c (omega (arith, taken))

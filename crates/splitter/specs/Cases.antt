@@ -12,6 +12,7 @@ use Rattle.heads.specs.declared.info.AudioFrameKind.{AudioFrameKind}
 use Rattle.heads.specs.declared.info.AudioFrameKind.the-variants.{Ac3, Eac3, MpegLayer1, MpegLayer3, AacAdts}
 use Rattle.heads.specs.declared.info.BitRate.{BitRate}
 use Rattle.heads.specs.declared.info.BitRate.the-variants.{Coded, Absent as NoBitRate}
+use Rattle.splitter.specs.Bounds.{pendingMost}
 use Rattle.splitter.specs.Answer.{Answer, done}
 use Rattle.splitter.specs.Push.{Outcome, event, push, new}
 use Rattle.splitter.specs.Flush.{flush}
@@ -25,9 +26,9 @@ use Rattle.splitter.specs.declared.state.AudioFrameSplitter.{AudioFrameS
 
 -- ---- calls on one splitter
 
-pub data Call : Type 0 where
-  pushes : List ℕ → Pts → Call
-  flushes : Call
+pub data Move : Type 0 where
+  pushes : List ℕ → Pts → Move
+  flushes : Move
 
 -- what a call shows: its answer, the rows and the bytes that it wrote, and the state
 pub record Shows : Type 0 where
@@ -52,11 +53,11 @@ shown o =
     }
 
 -- one call, lent the pending buffer as the last one left it
-abbrev pub made : AudioFrameSplitter → List ℕ → Call → Outcome
+abbrev pub made : AudioFrameSplitter → List ℕ → Move → Outcome
 made s b (pushes p t) = push s (event p t b (replicate 60 0) (replicate 64 (pos 9)))
 made s b flushes = flush s (event [] Absent b (replicate 60 0) (replicate 64 (pos 9)))
 
-abbrev pub chain : AudioFrameSplitter → List ℕ → List Call → List Shows
+abbrev pub chain : AudioFrameSplitter → List ℕ → List Move → List Shows
 chain s b [] = []
 chain s b (c ∷ cs) = shown (made s b c) ∷ chain ((made s b c) .state) ((made s b c) .pend) cs
 
@@ -74,15 +75,25 @@ pub record Case : Type 0 where
 -- a head of that code and those bytes reports that kind, length, samples, rate, channels and bit rate
 abbrev reads : ℕ → List ℕ → AudioFrameKind → ℕ → ℕ → ℕ → ℕ → BitRate → Case
 reads code b k n s r c q =
-    record { asked = head (headOfCode code b); said = head (Read (record { kind = k; «frame_len» = n; «samples_per_frame» = s; «sample_rate» = r; channels = c; «bit_rate» = q })) }
+    record {
+      asked = head (headOfCode code b);
+      said = head (Read (record {
+        kind = k;
+        «frame_len» = n;
+        «samples_per_frame» = s;
+        «sample_rate» = r;
+        channels = c;
+        «bit_rate» = q;
+      }));
+    }
 
 -- so many samples at that rate last so many ticks
 abbrev lasts : ℕ → ℕ → ℕ → Case
 lasts samples rate n = record { asked = ticks (duration90k samples rate); said = ticks n }
 
 -- the calls on a new splitter of that code show this
-abbrev show : ℕ → List Call → List Shows → Case
-show code cs ss = record { asked = calls (chain (new code) (replicate 8190 0) cs); said = calls ss }
+abbrev show : ℕ → List Move → List Shows → Case
+show code cs ss = record { asked = calls (chain (new code) (replicate pendingMost 0) cs); said = calls ss }
 
 -- F is the ADTS frame FF F1 50 80 00 E0 00: 7 bytes, 1024 samples, 44100 Hz, 2 channels
 abbrev F : List ℕ
@@ -107,7 +118,15 @@ anchor t n s r = To (record { pts = t; «frames_since» = n; «samples_per_frame
 
 abbrev shows : Answer → List ℤ → List ℕ → List ℕ → Pts → Anchored → ℕ → Bool → Shows
 shows a r b p t k d l =
-    record { answer = a; rows = r; bytes = b; pending = p; timing = record { «residual_pts» = t; anchor = k }; discarded = d; locked = l }
+    record {
+      answer = a;
+      rows = r;
+      bytes = b;
+      pending = p;
+      timing = record { «residual_pts» = t; anchor = k };
+      discarded = d;
+      locked = l;
+    }
 
 unfoldable pub starred : List Case
 starred =
@@ -122,7 +141,8 @@ starred =
     ∷ lasts 65536 1 1603272704  -- D1
     ∷ lasts 65536 0 0  -- D1, at 0 Hz
     ∷ show 2 (pushes (F ++ F ++ F) (At (negsuc 999)) ∷ [])  -- S1
-    (shows (done true 3 21) (rowAt (negsuc 999) ++ rowAt (pos 1089) ++ rowAt (pos 3179)) (F ++ F ++ F) [] Absent (anchor (negsuc 999) 3 1024 44100) 0 true ∷ [])
+    (shows (done true 3 21) (rowAt (negsuc 999) ++ rowAt (pos 1089) ++ rowAt (pos 3179)) (F ++ F ++ F) [] Absent
+    (anchor (negsuc 999) 3 1024 44100) 0 true ∷ [])
     ∷ show 2 (pushes (0 ∷ F) Absent ∷ [])  -- S2
     (shows (done false 0 0) [] [] [] Absent Free 0 false ∷ [])
     ∷ show 2 (pushes (F ++ zeros 7) (At (pos 1000)) ∷ pushes F Absent ∷ [])  -- S3: the unreadable tail takes the timestamp and counts as one frame
@@ -137,6 +157,7 @@ starred =
     ∷ [])
     ∷ show 0 (pushes (0x0B ∷ 0x77 ∷ 0x00 ∷ 0x00 ∷ 0x3F ∷ 0x80 ∷ []) Absent ∷ flushes ∷ [])  -- S7: six bytes, though the head says 2
     (shows (done true 0 0) [] [] (0x0B ∷ 0x77 ∷ 0x00 ∷ 0x00 ∷ 0x3F ∷ 0x80 ∷ []) Absent Free 0 false
-    ∷ shows (done true 1 6) (pos 2 ∷ pos 2 ∷ pos 1536 ∷ pos 48000 ∷ pos 6 ∷ pos 0 ∷ pos 0 ∷ pos 0 ∷ []) (0x0B ∷ 0x77 ∷ 0x00 ∷ 0x00 ∷ 0x3F ∷ 0x80 ∷ []) [] Absent Free 0 false
+    ∷ shows (done true 1 6) (pos 2 ∷ pos 2 ∷ pos 1536 ∷ pos 48000 ∷ pos 6 ∷ pos 0 ∷ pos 0 ∷ pos 0 ∷ [])
+    (0x0B ∷ 0x77 ∷ 0x00 ∷ 0x00 ∷ 0x3F ∷ 0x80 ∷ []) [] Absent Free 0 false
     ∷ [])
     ∷ []

@@ -1,6 +1,6 @@
--- CUTTING. What becomes of the joined bytes, with no word of time: a list of cuts whose bytes, in order, are the joined bytes.
--- Document 01, port order 6: 'Otherwise, from place 0, while the header need is left ..'. A reader is a parameter: n bytes are needed
--- for a head, rd reads one.
+-- CUTTING. What becomes of the joined bytes, with no word of time: a list of cuts whose bytes, in order, are the joined
+-- bytes. Document 01, port order 6: 'Otherwise, from place 0, while the header need is left ..'. A reader is a
+-- parameter: n bytes are needed for a head, rd reads one.
 use mathlib.Core.Bool.{Bool, true, false, _&&_}
 use mathlib.Core.List.{List, [], _∷_}
 use Prim.Native.Nat.{ℕ, zero, suc, _-_}
@@ -26,11 +26,13 @@ abbrev pub unread : Head → Bool
 unread (Read i) = false
 unread (Refused g) = true
 
--- 'followed by at least the header need of bytes that don't read as a head': n is the need, l the bytes from the frame's first on
+-- 'followed by at least the header need of bytes that don't read as a head': n is the need, l the bytes from the
+-- frame's first on
 abbrev pub falseSync : ℕ → Reader → AudioFrameInfo → List ℕ → Bool
 falseSync n rd i l = leb n (length l - i .«frame_len») && unread (rd (drop (i .«frame_len») l))
 
--- The place has a head. Is its length below the need; does the frame run past the end; is it followed by what is no head?
+-- The place has a head. Is its length below the need; does the frame run past the end; is it followed by what is no
+-- head?
 abbrev pub headed : Bool → Bool → Bool → AudioFrameInfo → ℕ → List ℕ → (ℕ → List Cut) → List Cut
 headed true past nohead i b l go = lost false b ∷ go 0
 headed false true nohead i b l go = kept i (b ∷ l) ∷ []

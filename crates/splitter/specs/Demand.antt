@@ -1,5 +1,5 @@
--- DEMAND 3: what a list of pushes owes on a list A of whole frames, by places in A's bytes. How the splitter works does not come in; its
--- calls do, in the claim at the end.
+-- DEMAND 3: what a list of pushes owes on a list A of whole frames, by places in A's bytes. How the splitter works does
+-- not come in; its calls do, in the claim at the end.
 use mathlib.Core.Path.{_≡_}
 use mathlib.Core.Bool.{Bool, true, false}
 use mathlib.Core.Option.{Option, none, some}
@@ -16,10 +16,11 @@ use Rattle.heads.specs.declared.info.Head.{Head}
 use Rattle.heads.specs.declared.info.Head.the-variants.{Read, Refused}
 use Rattle.heads.specs.declared.syntax.AudioSyntax.{AudioSyntax}
 use Rattle.heads.specs.declared.syntax.CodedSyntax.the-variants.{Known}
+use Rattle.splitter.specs.Bounds.{payloadMost, rowWidth}
 use Rattle.splitter.specs.Cut.{Reader}
 use Rattle.splitter.specs.Stamp.{Frame, farPts}
 use Rattle.splitter.specs.Answer.{Answer, refused, done}
-use Rattle.splitter.specs.Push.{Event, Outcome, firstOf, rowWidth, tight, bytesOf, rowsOf, over, run, final, push, new}
+use Rattle.splitter.specs.Push.{Event, Outcome, firstOf, tight, bytesOf, rowsOf, over, run, final, push, new}
 use Rattle.splitter.specs.declared.timing.Pts.{Pts}
 use Rattle.splitter.specs.declared.timing.Pts.the-variants.{At, Absent}
 use Rattle.splitter.specs.declared.state.AudioFrameSplitter.{AudioFrameSplitter}
@@ -52,13 +53,14 @@ tailAt A x = drop (length (join (take (whole A x) A))) (take x (join A))
 
 -- The limits are 9, 10 and 12: 0, or the number of the first that the push breaks, with m bytes pending.
 unfoldable pub limit : ℕ → Event → ℕ
-limit m e = firstOf (ltb 65535 (length (e .payload))) 9 (firstOf (farPts (e .time)) 10 (firstOf (tight m e) 12 0))
+limit m e = firstOf (ltb payloadMost (length (e .payload))) 9 (firstOf (farPts (e .time)) 10 (firstOf (tight m e) 12 0))
 
 abbrev pub keepIf : ℕ → Event → List Event → List Event → List Event
 keepIf zero e inside outside = e ∷ inside
 keepIf (suc k) e inside outside = outside
 
--- the first x bytes of A having come before. Pending, also where 12 measures it, is what came after the last whole frame
+-- the first x bytes of A having come before. Pending, also where 12 measures it, is what came after the last whole
+-- frame
 abbrev pub within : List (List ℕ) → ℕ → List Event → List Event
 within A x [] = []
 within A x (e ∷ es) = keepIf (limit (length (tailAt A x)) e) e (within A (x + length (e .payload)) es) (within A x es)
@@ -93,15 +95,17 @@ abbrev pub pickPoint : Bool → Option Point → Option Point → Option Point
 pickPoint true a b = a
 pickPoint false a b = b
 
--- The P of frame j: the last timestamp, up to the payload that frame commences in, whose payload had a frame commencing in it. The
--- events are the pushes within the limits.
+-- The P of frame j: the last timestamp, up to the payload that frame commences in, whose payload had a frame commencing
+-- in it. The events are the pushes within the limits.
 abbrev pub pointOf : List (List ℕ) → ℕ → List Event → Option Point → ℕ → Option Point
 pointOf A x [] q j = q
 pointOf A x (e ∷ es) q j =
     pickPoint (ltb j (begun A x)) q
-    (pointOf A (x + length (e .payload)) es (moved (ltb (begun A x) (begun A (x + length (e .payload)))) (e .time) (begun A x) q) j)
+    (pointOf A (x + length (e .payload)) es
+    (moved (ltb (begun A x) (begun A (x + length (e .payload)))) (e .time) (begun A x) q) j)
 
--- P + floor(n × samples × 90,000 / rate): n counts the frames from the first that commences in P's payload up to j, j not counted
+-- P + floor(n × samples × 90,000 / rate): n counts the frames from the first that commences in P's payload up to j, j
+-- not counted
 abbrev pub stampFrom : Option Point → ℕ → AudioFrameInfo → Pts
 stampFrom none j i = Absent
 stampFrom (some q) j i = At (q .time +ℤ pos ((j - q .first) * i .«samples_per_frame» * 90000 / i .«sample_rate»))
@@ -114,16 +118,27 @@ IsPoint (some q) = Unit {0}
 abbrev pub infoOr : Head → AudioFrameInfo
 infoOr (Read i) = i
 infoOr (Refused g) =
-    record { kind = Ac3; «frame_len» = 0; «samples_per_frame» = 0; «sample_rate» = 0; channels = 0; «bit_rate» = NoBitRate }
+    record {
+      kind = Ac3;
+      «frame_len» = 0;
+      «samples_per_frame» = 0;
+      «sample_rate» = 0;
+      channels = 0;
+      «bit_rate» = NoBitRate;
+    }
 
 -- frames numbered from j, with their heads and stamps
-abbrev pub sheet : Reader → (ℕ → AudioFrameInfo → Pts) → ℕ → List (List ℕ) → List Frame
-sheet rd σ j [] = []
-sheet rd σ j (f ∷ fs) = record { info = infoOr (rd f); bytes = f; stamp = σ j (infoOr (rd f)) } ∷ sheet rd σ (suc j) fs
+abbrev pub framesFrom : Reader → (ℕ → AudioFrameInfo → Pts) → ℕ → List (List ℕ) → List Frame
+framesFrom rd σ j [] = []
+framesFrom rd σ j (f ∷ fs) = record {
+  info = infoOr (rd f);
+  bytes = f;
+  stamp = σ j (infoOr (rd f));
+} ∷ framesFrom rd σ (suc j) fs
 
 -- all of A's frames, with their stamps
 abbrev pub stamped : Reader → List (List ℕ) → List Event → List Frame
-stamped rd A evs = sheet rd (λ j i. stampFrom (pointOf A 0 (within A 0 evs) none j) j i) 0 A
+stamped rd A evs = framesFrom rd (λ j i. stampFrom (pointOf A 0 (within A 0 evs) none j) j i) 0 A
 
 -- ---- what is seen of a push: answer, state and buffers
 
@@ -182,14 +197,16 @@ abbrev pub part : ℕ → ℕ → List Frame → List Frame
 part a b l = drop a (take b l)
 
 abbrev pub seenIf : ℕ → ℕ → List (List ℕ) → ℕ → Event → List Frame → List Seen → List Seen → List Seen
-seenIf zero code A x e F inside outside = seenTaken code A x e (part (whole A x) (whole A (x + length (e .payload))) F) ∷ inside
+seenIf zero code A x e F inside outside =
+    seenTaken code A x e (part (whole A x) (whole A (x + length (e .payload))) F) ∷ inside
 seenIf (suc k) code A x e F inside outside = seenRefused code A x (suc k) e ∷ outside
 
 -- push by push; F: all of A's frames with their stamps
 abbrev pub owed : ℕ → List (List ℕ) → List Frame → ℕ → List Event → List Seen
 owed code A F x [] = []
 owed code A F x (e ∷ es) =
-    seenIf (limit (length (tailAt A x)) e) code A x e F (owed code A F (x + length (e .payload)) es) (owed code A F x es)
+    seenIf (limit (length (tailAt A x)) e) code A x e F (owed code A F (x + length (e .payload)) es)
+    (owed code A F x es)
 
 -- ---- what the calls wrote, one after the other
 

@@ -10,20 +10,26 @@ use Rattle.heads.specs.declared.info.Head.the-variants.{Read, Refused as Unread
 use Rattle.heads.specs.declared.syntax.AudioSyntax.{AudioSyntax}
 use Rattle.heads.specs.declared.syntax.CodedSyntax.{CodedSyntax}
 use Rattle.heads.specs.declared.syntax.CodedSyntax.the-variants.{Known, Refused}
-use Rattle.splitter.specs.Stamp.{emptied, forgotten}
-use Rattle.splitter.specs.Answer.{refusalNumber, refused, done}
-use Rattle.splitter.specs.Push.{Event, Outcome, firstOf, rowWidth, badState, rowsOf, over, stay, new}
+use Rattle.splitter.specs.Bounds.{pendingMost, rowWidth}
+use Rattle.splitter.specs.Stamp.{flushed, forgotten}
+use Rattle.splitter.specs.Answer.{callNumber, refused, done}
+use Rattle.splitter.specs.Push.{Event, Outcome, firstOf, numberBy, badState, rowsOf, over, stay, new}
 use Rattle.splitter.specs.declared.answer.NewSplitter.{NewSplitter}
 use Rattle.splitter.specs.declared.answer.NewSplitter.the-variants.{Made}
 use Rattle.splitter.specs.declared.answer.SplitterRefusal.the-variants.{SyntaxCode}
+use Rattle.splitter.specs.declared.timing.Timing.{Timing}
 use Rattle.splitter.specs.declared.state.AudioFrameSplitter.{AudioFrameSplitter}
 
 -- 12: the pending buffer, the output for the pending bytes, one row
 unfoldable pub flushTightOf : ℕ → ℕ → ℕ → ℕ → Bool
-flushTightOf m b o r = ltb b 8190 || (ltb o m || ltb r rowWidth)
+flushTightOf m b o r = ltb b pendingMost || (ltb o m || ltb r rowWidth)
 
 unfoldable pub flushRefusalOf : AudioFrameSplitter → ℕ → ℕ → ℕ → ℕ
 flushRefusalOf s b o r = firstOf (badState s) 8 (firstOf (flushTightOf (s .pending) b o r) 12 0)
+
+-- 7 comes before them
+unfoldable pub flushNumber : AudioFrameSplitter → ℕ → ℕ → ℕ → ℕ
+flushNumber s b o r = numberBy (syntaxOf (s .syntax)) (flushRefusalOf s b o r)
 
 -- Flush is handed the lent buffers alone: of an event it looks at neither payload nor timestamp.
 abbrev pub flushRefusal : AudioFrameSplitter → Event → ℕ
@@ -32,9 +38,9 @@ flushRefusal s e = flushRefusalOf s (length (e .pend)) (length (e .out)) (length
 abbrev pub pendingBytes : AudioFrameSplitter → Event → List ℕ
 pendingBytes s e = take (s .pending) (e .pend)
 
--- the state without its pending bytes and their stamp
-abbrev pub drainedState : AudioFrameSplitter → AudioFrameSplitter
-drainedState s = record { syntax = s .syntax; pending = 0; timing = emptied (s .timing); discarded = s .discarded; locked = s .locked }
+-- the state without its pending bytes, and what the stamping rule keeps then
+abbrev pub drainedState : AudioFrameSplitter → Timing → AudioFrameSplitter
+drainedState s t = record { syntax = s .syntax; pending = 0; timing = t; discarded = s .discarded; locked = s .locked }
 
 -- the pending bytes and their stamp if their head reads, else no frame and no change; it locks nothing
 abbrev pub drain : Head → AudioFrameSplitter → Event → Outcome
@@ -42,10 +48,14 @@ drain (Unreadable g) s e = stay (done false 0 0) s e
 drain (Read i) s e =
     record {
       answer = done true 1 (s .pending);
-      state = drainedState s;
+      state = drainedState s (flushed i (s .timing) .timing);
       pend = e .pend;
       out = over (pendingBytes s e) (e .out);
-      rows = over (rowsOf (record { info = i; bytes = pendingBytes s e; stamp = s .timing .«residual_pts» } ∷ [])) (e .rows);
+      rows = over (rowsOf (record {
+        info = i;
+        bytes = pendingBytes s e;
+        stamp = flushed i (s .timing) .pts;
+      } ∷ [])) (e .rows);
     }
 
 abbrev pub flushBy : ℕ → AudioSyntax → AudioFrameSplitter → Event → Outcome
@@ -77,4 +87,4 @@ newOf code = newIn (syntaxOf code) code
 -- 0 for a splitter that is made, or the refusal's number
 abbrev pub newNumber : NewSplitter → ℕ
 newNumber (Made s) = 0
-newNumber (NewSplitter.Refused ground) = refusalNumber ground
+newNumber (NewSplitter.Refused ground) = callNumber ground

@@ -1,17 +1,19 @@
--- PUSH, one call: the refusals, the joined bytes cut and stamped, and what the lent buffers then hold. And a list of calls.
+-- PUSH, one call: the refusals, the joined bytes cut and stamped, and what the lent buffers then hold. And a list of
+-- calls.
 use mathlib.Core.Bool.{Bool, true, false, not, _||_}
 use mathlib.Core.List.{List, [], _∷_, _++_}
-use Prim.Native.Nat.{ℕ, zero, suc, _+_, _*_, _/_, _^_}
+use Prim.Native.Nat.{ℕ, zero, suc, _+_, _*_, _/_}
 use lib.Dec.{ltb}
 use lib.IntN.{ℤ, pos}
 use lib.ListN.{length, take, drop}
-use Rattle.heads.specs.Numbers.{kindNumber, bitRateNumber}
+use Rattle.heads.specs.Numbers.{Values, valuesOf}
 use Rattle.heads.specs.Syntax.{headOf, needOf, syntaxOf}
 use Rattle.heads.specs.declared.syntax.AudioSyntax.{AudioSyntax}
 use Rattle.heads.specs.declared.syntax.CodedSyntax.{CodedSyntax}
 use Rattle.heads.specs.declared.syntax.CodedSyntax.the-variants.{Known, Refused}
+use Rattle.splitter.specs.Bounds.{pendingMost, payloadMost, discardedMost, frameLeast, rowWidth}
 use Rattle.splitter.specs.Cut.{Cut, unread, walk, remainder, losses}
-use Rattle.splitter.specs.Stamp.{Frame, Sheet, farPts, badTiming, manyFrames, forgotten, stampCuts}
+use Rattle.splitter.specs.Stamp.{Frame, Yield, farPts, badTiming, manyFrames, clockWith, forgotten, stampCuts}
 use Rattle.splitter.specs.Answer.{Answer, refused, done}
 use Rattle.splitter.specs.declared.timing.Pts.{Pts}
 use Rattle.splitter.specs.declared.timing.Pts.the-variants.{At, Absent}
@@ -37,27 +39,26 @@ pub record Outcome : Type 0 where
   pub out : List ℕ
   pub rows : List ℤ
 
+abbrev pub outcome : Answer → AudioFrameSplitter → List ℕ → List ℕ → List ℤ → Outcome
+outcome a s b o r = record { answer = a; state = s; pend = b; out = o; rows = r }
+
 -- ---- the numbers, in their order, from lengths and numbers alone
 
 abbrev pub firstOf : Bool → ℕ → ℕ → ℕ
 firstOf true number later = number
 firstOf false number later = later
 
--- how many numbers a row has
-abbrev pub rowWidth : ℕ
-rowWidth = 8
-
 -- 8
 unfoldable pub badState : AudioFrameSplitter → Bool
-badState s = ltb 8190 (s .pending) || badTiming (s .timing)
+badState s = ltb pendingMost (s .pending) || badTiming (s .timing)
 
 -- 11
 unfoldable pub badCount : AudioFrameSplitter → Bool
-badCount s = manyFrames (s .timing) || ltb (2 ^ 62) (s .discarded)
+badCount s = manyFrames (s .timing) || ltb discardedMost (s .discarded)
 
 -- 12, from the lengths of the payload and the lent buffers, with m bytes pending
 unfoldable pub tightOf : ℕ → ℕ → ℕ → ℕ → ℕ → Bool
-tightOf m p b o r = ltb b 8190 || (ltb o (m + p) || ltb r (rowWidth * ((m + p) / 7)))
+tightOf m p b o r = ltb b pendingMost || (ltb o (m + p) || ltb r (rowWidth * ((m + p) / frameLeast)))
 
 abbrev pub tight : ℕ → Event → Bool
 tight m e = tightOf m (length (e .payload)) (length (e .pend)) (length (e .out)) (length (e .rows))
@@ -66,7 +67,7 @@ tight m e = tightOf m (length (e .payload)) (length (e .pend)) (length (e .out))
 unfoldable pub refusalOf : AudioFrameSplitter → ℕ → Pts → ℕ → ℕ → ℕ → ℕ
 refusalOf s p t b o r =
     firstOf (badState s) 8
-    (firstOf (ltb 65535 p) 9
+    (firstOf (ltb payloadMost p) 9
     (firstOf (farPts t) 10
     (firstOf (badCount s) 11
     (firstOf (tightOf (s .pending) p b o r) 12 0))))
@@ -97,18 +98,14 @@ abbrev pub stampValue : Pts → ℤ
 stampValue Absent = pos 0
 stampValue (At t) = t
 
--- length as the head says, kind, samples, rate, channels, bit rate or 0, stamp present 0 or 1, stamp or 0
+-- the front of a row, the values of the head: 'length as the head says, kind, samples, rate, channels, bit rate or 0'
+abbrev pub rowFront : Values → List ℤ → List ℤ
+rowFront v rest =
+    pos (v .length) ∷ pos (v .kind) ∷ pos (v .samples) ∷ pos (v .rate) ∷ pos (v .channels) ∷ pos (v .bits) ∷ rest
+
+-- and behind it 'stamp present 0 or 1, stamp or 0'
 abbrev pub row : Frame → List ℤ
-row f =
-    pos (f .info .«frame_len»)
-    ∷ pos (kindNumber (f .info .kind))
-    ∷ pos (f .info .«samples_per_frame»)
-    ∷ pos (f .info .«sample_rate»)
-    ∷ pos (f .info .channels)
-    ∷ pos (bitRateNumber (f .info .«bit_rate»))
-    ∷ stampMark (f .stamp)
-    ∷ stampValue (f .stamp)
-    ∷ []
+row f = rowFront (valuesOf (f .info)) (stampMark (f .stamp) ∷ stampValue (f .stamp) ∷ [])
 
 abbrev pub rowsOf : List Frame → List ℤ
 rowsOf [] = []
@@ -127,7 +124,7 @@ abbrev pub anyFrame : List Frame → Bool
 anyFrame [] = false
 anyFrame (f ∷ fs) = true
 
-abbrev pub finish : AudioFrameSplitter → Event → List Cut → Sheet → Outcome
+abbrev pub finish : AudioFrameSplitter → Event → List Cut → Yield → Outcome
 finish s e cs sh =
     record {
       answer = done true (length (sh .frames)) (length (bytesOf (sh .frames)));
@@ -147,7 +144,7 @@ finish s e cs sh =
 -- ---- push
 
 abbrev pub clockOf : AudioFrameSplitter → Event → Clock
-clockOf s e = record { «new_pts» = e .time; timing = s .timing }
+clockOf s e = clockWith (e .time) (s .timing)
 
 -- pending bytes and payload
 abbrev pub joined : AudioFrameSplitter → Event → List ℕ

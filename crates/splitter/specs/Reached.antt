@@ -1,4 +1,5 @@
--- STATES REACHED BY CALLS, in any order and with whatever they are handed: document 01, 'Equality holds for states reached by calls'.
+-- STATES REACHED BY CALLS, in any order and with whatever they are handed: document 01, 'Equality holds for states
+-- reached by calls'.
 use mathlib.Core.List.{List, [], _∷_}
 use Rattle.splitter.specs.Push.{Event, push}
 use Rattle.splitter.specs.Flush.{flush, reset, unlock}

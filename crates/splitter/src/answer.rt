@@ -1,7 +1,7 @@
 // What the calls answer.
 use crate::state::AudioFrameSplitter;
 ghost use mathlib.Core.Path.{_≡_};
-ghost use Rattle.splitter.specs.Answer.{refusalNumber};
+ghost use Rattle.splitter.specs.Answer.{callNumber};
 
 // Why a call is turned down. The numbers are document 01's.
 pub enum SplitterRefusal {
@@ -58,7 +58,7 @@ pub enum NewSplitter {
 
 impl SplitterRefusal {
     pub fn number(self) -> u32
-        ensures { λ r. ⌜ r ≡ refusalNumber self ⌝ }
+        ensures { λ r. ⌜ r ≡ callNumber self ⌝ }
     {
         match self {
             SplitterRefusal::SyntaxCode => 7,

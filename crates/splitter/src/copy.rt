@@ -1,4 +1,5 @@
-// Copies between the lent buffers. J stands for the joined bytes: the first `carried` of the pending buffer, then the payload.
+// Copies between the lent buffers. J stands for the joined bytes: the first `carried` of the pending buffer, then the
+// payload.
 ghost use mathlib.Core.Path.{_≡_};
 ghost use mathlib.Core.List.{_++_};
 ghost use Prim.Native.Nat.{_+_, _≤_};
@@ -43,8 +44,8 @@ fn put_block(dst: &mut [u8], at: usize, block: [u8; 32])
     }
 }
 
-// Copies all of src to the front of dst: whole blocks of 32, then the last 32 bytes once more, since a loop over what is left of a
-// block costs more than both.
+// Copies all of src to the front of dst: whole blocks of 32, then the last 32 bytes once more, since a loop over what
+// is left of a block costs more than both.
 pub fn copy_front(dst: &mut [u8], src: &[u8])
     requires { ⌜ length (now src) ≤ length (now dst) ⌝ }
     ensures { λ _. ⌜ now (dst .exit) ≡ over (now (src .entry)) (now (dst .entry)) ⌝ }
@@ -81,8 +82,15 @@ pub fn copy_frame(
     from: usize,
     n: usize,
 )
-    requires { ⌜ (carried ≤ length (now pending)) × (from + n ≤ carried + length (now payload)) × (n ≤ length (now dst)) ⌝ }
-    ensures { λ _. ⌜ now (dst .exit) ≡ over (take n (drop from (take carried (now (pending .entry)) ++ now (payload .entry)))) (now (dst .entry)) ⌝ }
+    requires { ⌜
+        (carried ≤ length (now pending))
+        × (from + n ≤ carried + length (now payload))
+        × (n ≤ length (now dst))
+        ⌝ }
+    ensures { λ _. ⌜
+        now (dst .exit)
+        ≡ over (take n (drop from (take carried (now (pending .entry)) ++ now (payload .entry)))) (now (dst .entry))
+        ⌝ }
 {
     let end = from + n;
     if carried <= from {
@@ -101,10 +109,18 @@ pub fn copy_frame(
     copy_front(&mut dst[k..], &payload[0..e]);
 }
 
-// Keeps J from a place on, at the front of the pending buffer. Bytes that stand there already are not copied onto themselves.
+// Keeps J from a place on, at the front of the pending buffer. Bytes that stand there already are not copied onto
+// themselves.
 pub fn keep_tail(pending: &mut [u8], carried: usize, payload: &[u8], from: usize)
-    requires { ⌜ (carried ≤ length (now pending)) × (from ≤ carried + length (now payload)) × (carried + length (now payload) ≤ from + length (now pending)) ⌝ }
-    ensures { λ _. ⌜ now (pending .exit) ≡ over (drop from (take carried (now (pending .entry)) ++ now (payload .entry))) (now (pending .entry)) ⌝ }
+    requires { ⌜
+        (carried ≤ length (now pending))
+        × (from ≤ carried + length (now payload))
+        × (carried + length (now payload) ≤ from + length (now pending))
+        ⌝ }
+    ensures { λ _. ⌜
+        now (pending .exit)
+        ≡ over (drop from (take carried (now (pending .entry)) ++ now (payload .entry))) (now (pending .entry))
+        ⌝ }
 {
     if carried <= from {
         let a = from - carried;

@@ -4,11 +4,14 @@ use crate::answer::Flushed;
 use crate::answer::NewSplitter;
 use crate::answer::SplitterRefusal;
 use crate::answer::Written;
+use crate::bounds::PENDING_MAX;
 use crate::copy::copy_front;
+use crate::rows::ROW_WIDTH;
 use crate::rows::write_row;
 use crate::state::AudioFrameSplitter;
 use crate::state::Limits;
 use crate::timing::Timing;
+use crate::timing::flushed;
 use heads::AudioSyntax;
 use heads::CodedSyntax;
 use heads::Head;
@@ -19,7 +22,8 @@ ghost use lib.ListN.{length, take};
 ghost use Rattle.heads.specs.Syntax.{headOf};
 ghost use Rattle.splitter.specs.declared.timing.Pts.the-variants.{Absent};
 ghost use Rattle.splitter.specs.Answer.{flushAnswer};
-ghost use Rattle.splitter.specs.Push.{event, rowWidth};
+ghost use Rattle.splitter.specs.Push.{event, outcome};
+ghost use Rattle.splitter.specs.Bounds.{rowWidth};
 ghost use Rattle.splitter.specs.Flush.{flush, drain, drainedState, flushRefusalOf, reset, unlock, newOf};
 ghost use Rattle.splitter.specs.Steps.{limitsNumber};
 
@@ -48,8 +52,8 @@ impl AudioFrameSplitter {
         self.syntax
     }
 
-    // Whether a push has handed back a frame since the splitter was new or unlocked: before that, a caller may prefer to pass payloads
-    // through whole.
+    // Whether a push has handed back a frame since the splitter was new or unlocked: before that, a caller may prefer
+    // to pass payloads through whole.
     pub fn is_locked(self) -> bool
         ensures { λ r. ⌜ r ≡ self .locked ⌝ }
     {
@@ -70,7 +74,8 @@ impl AudioFrameSplitter {
         self.discarded
     }
 
-    // Forgets the pending bytes and the anchor: for a jump in the stream, after which the next bytes do not continue them.
+    // Forgets the pending bytes and the anchor: for a jump in the stream, after which the next bytes do not continue
+    // them.
     pub fn reset(self) -> AudioFrameSplitter
         ensures { λ r. ⌜ r ≡ reset self ⌝ }
     {
@@ -98,13 +103,13 @@ impl AudioFrameSplitter {
         }
     }
 
-    // At the end of a stream: hands back the pending bytes as they are, if their head reads. What a decoder makes of them is its own
-    // affair.
+    // At the end of a stream: hands back the pending bytes as they are, if their head reads. What a decoder makes of
+    // them is its own affair.
     pub fn flush(self, pending: &[u8], out: &mut [u8], rows: &mut [i64]) -> Flushed
-        ensures { λ r. ⌜ flushAnswer (r .answer) ≡ flush self (event [] Absent (now (pending .entry)) (now (out .entry)) (now (rows .entry))) .answer ⌝ }
-        ensures { λ r. ⌜ r .splitter ≡ flush self (event [] Absent (now (pending .entry)) (now (out .entry)) (now (rows .entry))) .state ⌝ }
-        ensures { λ _. ⌜ now (out .exit) ≡ flush self (event [] Absent (now (pending .entry)) (now (out .entry)) (now (rows .entry))) .out ⌝ }
-        ensures { λ _. ⌜ now (rows .exit) ≡ flush self (event [] Absent (now (pending .entry)) (now (out .entry)) (now (rows .entry))) .rows ⌝ }
+        ensures { λ r. ⌜
+            outcome (flushAnswer (r .answer)) (r .splitter) (now (pending .entry)) (now (out .exit)) (now (rows .exit))
+            ≡ flush self (event [] Absent (now (pending .entry)) (now (out .entry)) (now (rows .entry)))
+            ⌝ }
     {
         let CodedSyntax::Known(syntax) = AudioSyntax::from_code(self.syntax) else {
             let refusal = SplitterRefusal::SyntaxCode;
@@ -129,13 +134,13 @@ impl AudioFrameSplitter {
         if self.bad_state() {
             return Limits::Broken(SplitterRefusal::State);
         }
-        if pending < 8190 {
+        if pending < PENDING_MAX {
             return Limits::Broken(SplitterRefusal::Buffer);
         }
         if out < self.pending {
             return Limits::Broken(SplitterRefusal::Buffer);
         }
-        if rows < 8 {
+        if rows < ROW_WIDTH {
             return Limits::Broken(SplitterRefusal::Buffer);
         }
         Limits::Kept
@@ -143,11 +148,15 @@ impl AudioFrameSplitter {
 
     // The pending bytes and their stamp if their head reads, else no frame and no change.
     fn drain(self, syntax: AudioSyntax, pending: &[u8], out: &mut [u8], rows: &mut [i64]) -> Flushed
-        requires { ⌜ (self .pending ≤ length (now pending)) × (self .pending ≤ length (now out)) × (rowWidth ≤ length (now rows)) ⌝ }
-        ensures { λ r. ⌜ flushAnswer (r .answer) ≡ drain (headOf syntax (take (self .pending) (now (pending .entry)))) self (event [] Absent (now (pending .entry)) (now (out .entry)) (now (rows .entry))) .answer ⌝ }
-        ensures { λ r. ⌜ r .splitter ≡ drain (headOf syntax (take (self .pending) (now (pending .entry)))) self (event [] Absent (now (pending .entry)) (now (out .entry)) (now (rows .entry))) .state ⌝ }
-        ensures { λ _. ⌜ now (out .exit) ≡ drain (headOf syntax (take (self .pending) (now (pending .entry)))) self (event [] Absent (now (pending .entry)) (now (out .entry)) (now (rows .entry))) .out ⌝ }
-        ensures { λ _. ⌜ now (rows .exit) ≡ drain (headOf syntax (take (self .pending) (now (pending .entry)))) self (event [] Absent (now (pending .entry)) (now (out .entry)) (now (rows .entry))) .rows ⌝ }
+        requires { ⌜
+            (self .pending ≤ length (now pending))
+            × (self .pending ≤ length (now out))
+            × (rowWidth ≤ length (now rows))
+            ⌝ }
+        ensures { λ r. ⌜
+            outcome (flushAnswer (r .answer)) (r .splitter) (now (pending .entry)) (now (out .exit)) (now (rows .exit))
+            ≡ drain (headOf syntax (take (self .pending) (now (pending .entry)))) self (event [] Absent (now (pending .entry)) (now (out .entry)) (now (rows .entry)))
+            ⌝ }
     {
         let n = self.pending;
         let Head::Read(info) = syntax.parse(&pending[..n]) else {
@@ -156,23 +165,23 @@ impl AudioFrameSplitter {
                 splitter: self,
             };
         };
-        let timing = self.timing;
-        let stamp = timing.residual_pts;
+        let held = self.timing;
+        let flushing = flushed(held, info);
+        let stamp = flushing.pts;
+        let timing = flushing.timing;
         copy_front(out, &pending[..n]);
         write_row(rows, info, stamp);
         let written = Written { rows: 1, bytes: n };
         Flushed {
             answer: FlushAnswer::Frame(written),
-            splitter: self.drained(),
+            splitter: self.drained(timing),
         }
     }
 
-    // The state without its pending bytes.
-    fn drained(self) -> AudioFrameSplitter
-        ensures { λ r. ⌜ r ≡ drainedState self ⌝ }
+    // The state without its pending bytes, and what the stamping rule keeps then.
+    fn drained(self, timing: Timing) -> AudioFrameSplitter
+        ensures { λ r. ⌜ r ≡ drainedState self timing ⌝ }
     {
-        let held = self.timing;
-        let timing = held.emptied();
         AudioFrameSplitter {
             syntax: self.syntax,
             pending: 0,

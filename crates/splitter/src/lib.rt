@@ -1,6 +1,7 @@
-// The splitter: cuts the payloads of one elementary stream into frames, wherever the payloads cut the frames, and stamps each frame
-// with its presentation time. Of heads it uses what crate `heads` promises, and nothing else.
+// The splitter: cuts the payloads of one elementary stream into frames, wherever the payloads cut the frames, and
+// stamps each frame with its presentation time. Of heads it uses what crate `heads` promises, and nothing else.
 mod answer;
+mod bounds;
 mod copy;
 mod flush;
 mod push;
@@ -16,6 +17,10 @@ pub use answer::PushAnswer;
 pub use answer::Pushed;
 pub use answer::SplitterRefusal;
 pub use answer::Written;
+pub use bounds::FRAME_MIN;
+pub use bounds::PAYLOAD_MAX;
+pub use bounds::PENDING_MAX;
+pub use rows::ROW_WIDTH;
 pub use state::AudioFrameSplitter;
 pub use state::Limits;
 pub use timing::Anchor;

@@ -5,6 +5,7 @@ use crate::answer::SplitterRefusal;
 use crate::answer::Written;
 use crate::copy::copy_frame;
 use crate::copy::keep_tail;
+use crate::rows::ROW_WIDTH;
 use crate::rows::write_row;
 use crate::search::false_sync;
 use crate::search::head_at;
@@ -22,9 +23,9 @@ ghost use mathlib.Core.Bool.{true, _||_};
 ghost use mathlib.Core.List.{_++_};
 ghost use lib.ListN.{take};
 ghost use Rattle.splitter.specs.Answer.{pushAnswer};
-ghost use Rattle.splitter.specs.Push.{push, pushTaken, refusal, event, admits};
+ghost use Rattle.splitter.specs.Push.{push, pushTaken, refusal, event, outcome, admits};
 ghost use Rattle.splitter.specs.Search.{Searchable, Searched};
-ghost use Rattle.splitter.specs.Steps.{Small, startWalk, lostWalk, givenWalk, startClock, Entered, admission, Settleable, settled};
+ghost use Rattle.splitter.specs.Steps.{Small, startWalk, lostWalk, givenWalk, Entered, admission, Settleable, settled};
 
 // What the search finds.
 pub enum Next {
@@ -36,7 +37,8 @@ pub enum Next {
     End,
 }
 
-// How far a push has come: the place reached in the joined bytes, the bytes lost, and the rows and output bytes written.
+// How far a push has come: the place reached in the joined bytes, the bytes lost, and the rows and output bytes
+// written.
 pub struct Walk {
     pub place: usize,
     pub lost: usize,
@@ -114,7 +116,9 @@ fn search(
     mut clock: Clock,
 ) -> Found
     requires { ⌜ Searchable syntax need (now pending) carried (now payload) walk ⌝ }
-    ensures { λ r. ⌜ Searched syntax (take carried (now (pending .entry)) ++ now (payload .entry)) carried clock walk r ⌝ }
+    ensures { λ r. ⌜
+        Searched syntax (take carried (now (pending .entry)) ++ now (payload .entry)) carried clock walk r
+        ⌝ }
 {
     let total = carried + payload.len();
     let next = loop {
@@ -154,11 +158,10 @@ impl AudioFrameSplitter {
         out: &mut [u8],
         rows: &mut [i64],
     ) -> Pushed
-        ensures { λ r. ⌜ pushAnswer (r .answer) ≡ push self (event (now (payload .entry)) pts (now (pending .entry)) (now (out .entry)) (now (rows .entry))) .answer ⌝ }
-        ensures { λ r. ⌜ r .splitter ≡ push self (event (now (payload .entry)) pts (now (pending .entry)) (now (out .entry)) (now (rows .entry))) .state ⌝ }
-        ensures { λ _. ⌜ now (pending .exit) ≡ push self (event (now (payload .entry)) pts (now (pending .entry)) (now (out .entry)) (now (rows .entry))) .pend ⌝ }
-        ensures { λ _. ⌜ now (out .exit) ≡ push self (event (now (payload .entry)) pts (now (pending .entry)) (now (out .entry)) (now (rows .entry))) .out ⌝ }
-        ensures { λ _. ⌜ now (rows .exit) ≡ push self (event (now (payload .entry)) pts (now (pending .entry)) (now (out .entry)) (now (rows .entry))) .rows ⌝ }
+        ensures { λ r. ⌜
+            outcome (pushAnswer (r .answer)) (r .splitter) (now (pending .exit)) (now (out .exit)) (now (rows .exit))
+            ≡ push self (event (now (payload .entry)) pts (now (pending .entry)) (now (out .entry)) (now (rows .entry)))
+            ⌝ }
     {
         match self.enter(payload, pts, pending.len(), out.len(), rows.len()) {
             Entry::Open(syntax) => self.push_taken(syntax, payload, pts, pending, out, rows),
@@ -180,16 +183,16 @@ impl AudioFrameSplitter {
         rows: &mut [i64],
     ) -> Pushed
         requires { ⌜ refusal self (event (now payload) pts (now pending) (now out) (now rows)) ≡ 0 ⌝ }
-        ensures { λ r. ⌜ pushAnswer (r .answer) ≡ pushTaken true syntax self (event (now (payload .entry)) pts (now (pending .entry)) (now (out .entry)) (now (rows .entry))) .answer ⌝ }
-        ensures { λ r. ⌜ r .splitter ≡ pushTaken true syntax self (event (now (payload .entry)) pts (now (pending .entry)) (now (out .entry)) (now (rows .entry))) .state ⌝ }
-        ensures { λ _. ⌜ now (pending .exit) ≡ pushTaken true syntax self (event (now (payload .entry)) pts (now (pending .entry)) (now (out .entry)) (now (rows .entry))) .pend ⌝ }
-        ensures { λ _. ⌜ now (out .exit) ≡ pushTaken true syntax self (event (now (payload .entry)) pts (now (pending .entry)) (now (out .entry)) (now (rows .entry))) .out ⌝ }
-        ensures { λ _. ⌜ now (rows .exit) ≡ pushTaken true syntax self (event (now (payload .entry)) pts (now (pending .entry)) (now (out .entry)) (now (rows .entry))) .rows ⌝ }
+        ensures { λ r. ⌜
+            outcome (pushAnswer (r .answer)) (r .splitter) (now (pending .exit)) (now (out .exit)) (now (rows .exit))
+            ≡ pushTaken true syntax self (event (now (payload .entry)) pts (now (pending .entry)) (now (out .entry)) (now (rows .entry)))
+            ⌝ }
     {
         let need = syntax.header_len();
         let carried = self.pending;
         let total = carried + payload.len();
-        let mut clock = self.clock(pts);
+        let timing = self.timing;
+        let mut clock = Clock::new(pts, timing);
         let mut walk = Walk::start();
         let last = loop {
             let found = search(syntax, need, &pending[..], carried, payload, walk, clock);
@@ -202,7 +205,7 @@ impl AudioFrameSplitter {
             let n = info.frame_len;
             let place = walk.place;
             let at = walk.bytes;
-            let row = 8 * walk.rows;
+            let row = ROW_WIDTH * walk.rows;
             let stamped = clock.give(place < carried, info);
             let stamp = stamped.pts;
             copy_frame(&mut out[at..], &pending[..], carried, payload, place, n);
@@ -240,17 +243,6 @@ impl AudioFrameSplitter {
         }
     }
 
-    // The clock of a payload with that timestamp.
-    fn clock(self, pts: Pts) -> Clock
-        ensures { λ r. ⌜ r ≡ startClock self pts ⌝ }
-    {
-        let timing = self.timing;
-        Clock {
-            new_pts: pts,
-            timing,
-        }
-    }
-
     // The answer of a push that was taken, and the state after it.
     fn settle(self, walk: Walk, clock: Clock, last: Next, total: usize) -> Pushed
         requires { ⌜ Settleable self walk clock last total ⌝ }
@@ -261,8 +253,7 @@ impl AudioFrameSplitter {
         let early = place < self.pending;
         let timing = match last {
             Next::Partial(info) => clock.keep(early, info),
-            Next::Frame(_) => clock.keep_tail(early, left),
-            Next::End => clock.keep_tail(early, left),
+            _ => clock.keep_tail(early, left),
         };
         let locked = either(self.locked, walk.rows > 0);
         let written = Written {

@@ -4,8 +4,12 @@ use heads::AudioFrameInfo;
 ghost use mathlib.Core.Path.{_≡_};
 ghost use Prim.Native.Nat.{_≤_};
 ghost use lib.ListN.{length};
-ghost use Rattle.splitter.specs.Push.{over, rowWidth};
+ghost use Rattle.splitter.specs.Push.{over};
+ghost use Rattle.splitter.specs.Bounds.{rowWidth};
 ghost use Rattle.splitter.specs.Steps.{rowBy};
+
+// How many numbers a row has.
+pub const ROW_WIDTH: usize = 8;
 
 // Writes the row of a frame to the front of a slice.
 pub fn write_row(row: &mut [i64], info: AudioFrameInfo, pts: Pts)

@@ -10,6 +10,9 @@ ghost use Rattle.heads.specs.Syntax.{headOf, needOf};
 ghost use Rattle.splitter.specs.Search.{noHead};
 ghost use Rattle.splitter.specs.Steps.{UnreadRun};
 
+// No head is decided by more bytes.
+const HEAD_MAX: usize = 8;
+
 fn least(x: usize, y: usize) -> usize
     ensures { λ r. ⌜ r ≡ min x y ⌝ }
 {
@@ -31,7 +34,7 @@ pub fn head_at(
         let a = at - carried;
         return syntax.parse(&payload[a..]);
     }
-    if carried - at >= 8 {
+    if carried - at >= HEAD_MAX {
         return syntax.parse(&pending[at..carried]);
     }
     gathered_head(syntax, pending, carried, payload, at)
@@ -48,8 +51,8 @@ fn gathered_head(
     requires { ⌜ (carried ≤ length (now pending)) × (at < carried) ⌝ }
     ensures { λ r. ⌜ r ≡ headOf syntax (drop at (take carried (now (pending .entry)) ++ now (payload .entry))) ⌝ }
 {
-    let n = least(carried - at + payload.len(), 8);
-    let mut window = [0u8; 8];
+    let n = least(carried - at + payload.len(), HEAD_MAX);
+    let mut window = [0u8; HEAD_MAX];
     copy_frame(&mut window, pending, carried, payload, at, n);
     syntax.parse(&window[..n])
 }
@@ -75,8 +78,9 @@ pub fn false_sync(
     }
 }
 
-// How many bytes the search gives up from a place on at which no head reads: that one, and those after it that cannot begin a head. A
-// place counts only while the header need is left there, and the skip below does not pass the last byte that it is lent.
+// How many bytes the search gives up from a place on at which no head reads: that one, and those after it that cannot
+// begin a head. A place counts only while the header need is left there, and the skip below does not pass the last byte
+// that it is lent.
 pub fn unread_run(
     syntax: AudioSyntax,
     need: usize,
@@ -85,7 +89,11 @@ pub fn unread_run(
     payload: &[u8],
     at: usize,
 ) -> usize
-    requires { ⌜ (carried ≤ length (now pending)) × (need ≡ needOf syntax) × (at + need ≤ carried + length (now payload)) ⌝ }
+    requires { ⌜
+        (carried ≤ length (now pending))
+        × (need ≡ needOf syntax)
+        × (at + need ≤ carried + length (now payload))
+        ⌝ }
     ensures { λ r. ⌜ UnreadRun syntax (take carried (now (pending .entry)) ++ now (payload .entry)) at r ⌝ }
 {
     let from = at + 1;

@@ -1,13 +1,21 @@
-// The splitter's state, and what the numbers 7 to 12 ask of it. It goes into each call by value and is handed back by it.
+// The splitter's state, and what the numbers 7 to 12 ask of it. It goes into each call by value and is handed back by
+// it.
 use crate::answer::SplitterRefusal;
-use crate::timing::Anchored;
+use crate::bounds::DISCARDED_MAX;
+use crate::bounds::FRAME_MIN;
+use crate::bounds::PAYLOAD_MAX;
+use crate::bounds::PENDING_MAX;
+use crate::rows::ROW_WIDTH;
 use crate::timing::Pts;
 use crate::timing::Timing;
+use crate::timing::bad_timing;
+use crate::timing::far_pts;
+use crate::timing::many_frames;
 use heads::AudioSyntax;
 use heads::CodedSyntax;
 ghost use mathlib.Core.Path.{_≡_};
 ghost use Prim.Native.Nat.{_≤_};
-ghost use Rattle.splitter.specs.Stamp.{far, farPts, badAnchor, manySince};
+ghost use Rattle.splitter.specs.Bounds.{pendingMost, payloadMost};
 ghost use Rattle.splitter.specs.Push.{badState, badCount, tightOf, refusalOf, pushNumber};
 ghost use Rattle.splitter.specs.Steps.{limitsNumber};
 
@@ -29,59 +37,20 @@ pub enum Limits {
     Broken(SplitterRefusal),
 }
 
-// Whether a time lies outside -2^62 .. 2^62.
-fn far(t: i64) -> bool
-    ensures { λ r. ⌜ r ≡ far t ⌝ }
-{
-    if t < -4611686018427387904 {
-        return true;
-    }
-    4611686018427387904 < t
-}
-
-fn far_pts(pts: Pts) -> bool
-    ensures { λ r. ⌜ r ≡ farPts pts ⌝ }
-{
-    match pts {
-        Pts::At(t) => far(t),
-        Pts::Absent => false,
-    }
-}
-
-fn bad_anchor(held: Anchored) -> bool
-    ensures { λ r. ⌜ r ≡ badAnchor held ⌝ }
-{
-    let Anchored::To(a) = held else {
-        return false;
-    };
-    if 4096 < a.samples_per_frame {
-        return true;
-    }
-    far(a.pts)
-}
-
-fn many_since(held: Anchored) -> bool
-    ensures { λ r. ⌜ r ≡ manySince held ⌝ }
-{
-    let Anchored::To(a) = held else {
-        return false;
-    };
-    4_294_000_000 < a.frames_since
-}
-
-// Whether a lent buffer is too short, with so many bytes pending and in the payload: the pending buffer, the output, the rows.
+// Whether a lent buffer is too short, with so many bytes pending and in the payload: the pending buffer, the output,
+// the rows.
 fn tight(held: usize, payload: usize, pending: usize, out: usize, rows: usize) -> bool
-    requires { ⌜ (held ≤ 8190) × (payload ≤ 65535) ⌝ }
+    requires { ⌜ (held ≤ pendingMost) × (payload ≤ payloadMost) ⌝ }
     ensures { λ r. ⌜ r ≡ tightOf held payload pending out rows ⌝ }
 {
     let joined = held + payload;
-    if pending < 8190 {
+    if pending < PENDING_MAX {
         return true;
     }
     if out < joined {
         return true;
     }
-    rows < 8 * (joined / 7)
+    rows < ROW_WIDTH * (joined / FRAME_MIN)
 }
 
 impl AudioFrameSplitter {
@@ -90,12 +59,11 @@ impl AudioFrameSplitter {
         ensures { λ r. ⌜ r ≡ badState self ⌝ }
     {
         let pending = self.pending;
-        if 8190 < pending {
+        if PENDING_MAX < pending {
             return true;
         }
         let timing = self.timing;
-        let anchor = timing.anchor;
-        bad_anchor(anchor)
+        bad_timing(timing)
     }
 
     // Number 11.
@@ -103,11 +71,10 @@ impl AudioFrameSplitter {
         ensures { λ r. ⌜ r ≡ badCount self ⌝ }
     {
         let timing = self.timing;
-        let anchor = timing.anchor;
-        if many_since(anchor) {
+        if many_frames(timing) {
             return true;
         }
-        4611686018427387904 < self.discarded
+        DISCARDED_MAX < self.discarded
     }
 
     // The numbers 8 to 12 for a push, from lengths and numbers alone.
@@ -117,7 +84,7 @@ impl AudioFrameSplitter {
         if self.bad_state() {
             return Limits::Broken(SplitterRefusal::State);
         }
-        if 65535 < payload {
+        if PAYLOAD_MAX < payload {
             return Limits::Broken(SplitterRefusal::PayloadLength);
         }
         if far_pts(pts) {

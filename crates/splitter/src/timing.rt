@@ -1,11 +1,16 @@
-// Presentation times: the payload's timestamp goes to the first thing that commences in the payload, and the later ones are worked
-// out from the anchor that it makes.
+// Presentation times: the payload's timestamp goes to the first thing that commences in the payload, and the later ones
+// are worked out from the anchor that it makes.
 
+use crate::bounds::SAMPLES_MAX;
+use crate::bounds::SINCE_MAX;
+use crate::bounds::TIME_MAX;
+use crate::bounds::TIME_MIN;
 use heads::AudioFrameInfo;
 ghost use mathlib.Core.Path.{_≡_};
 ghost use Prim.Native.Nat.{_≤_};
-ghost use Rattle.splitter.specs.Stamp.{after, give, keep, voided, guessOf, emptied, forgotten};
-ghost use Rattle.splitter.specs.Steps.{Steady, Good, interpolated, anchoredTo, takenStamp, keptWith, tailTiming};
+ghost use Rattle.splitter.specs.Bounds.{countMost, samplesMost};
+ghost use Rattle.splitter.specs.Stamp.{far, farPts, badAnchor, badTiming, manySince, manyFrames, after, clockWith, give, keep, voided, guessOf, emptied, flushed, forgotten};
+ghost use Rattle.splitter.specs.Clocks.{Steady, Good, interpolated, anchoredTo, takenStamp, keptWith, tailTiming};
 
 // A presentation time on the 90 kHz clock, where there is one.
 pub enum Pts {
@@ -50,10 +55,81 @@ pub struct Stamped {
     pub clock: Clock,
 }
 
+// The stamp of the bytes that a flush hands back, and what the rule keeps after them.
+pub struct Flushing {
+    pub pts: Pts,
+    pub timing: Timing,
+}
+
+// Whether a time lies outside -2^62 .. 2^62.
+fn far(t: i64) -> bool
+    ensures { λ r. ⌜ r ≡ far t ⌝ }
+{
+    if t < TIME_MIN {
+        return true;
+    }
+    TIME_MAX < t
+}
+
+pub fn far_pts(pts: Pts) -> bool
+    ensures { λ r. ⌜ r ≡ farPts pts ⌝ }
+{
+    match pts {
+        Pts::At(t) => far(t),
+        Pts::Absent => false,
+    }
+}
+
+fn bad_anchor(held: Anchored) -> bool
+    ensures { λ r. ⌜ r ≡ badAnchor held ⌝ }
+{
+    let Anchored::To(a) = held else {
+        return false;
+    };
+    if SAMPLES_MAX < a.samples_per_frame {
+        return true;
+    }
+    far(a.pts)
+}
+
+fn many_since(held: Anchored) -> bool
+    ensures { λ r. ⌜ r ≡ manySince held ⌝ }
+{
+    let Anchored::To(a) = held else {
+        return false;
+    };
+    SINCE_MAX < a.frames_since
+}
+
+// What number 8 asks of what the rule keeps.
+pub fn bad_timing(timing: Timing) -> bool
+    ensures { λ r. ⌜ r ≡ badTiming timing ⌝ }
+{
+    let anchor = timing.anchor;
+    bad_anchor(anchor)
+}
+
+// What number 11 asks of it.
+pub fn many_frames(timing: Timing) -> bool
+    ensures { λ r. ⌜ r ≡ manyFrames timing ⌝ }
+{
+    let anchor = timing.anchor;
+    many_since(anchor)
+}
+
+// A flush hands the pending bytes back, whose head reads so: their stamp, and what the rule keeps then.
+pub fn flushed(timing: Timing, info: AudioFrameInfo) -> Flushing
+    ensures { λ r. ⌜ r ≡ flushed info timing ⌝ }
+{
+    let pts = timing.residual_pts;
+    let kept = timing.emptied();
+    Flushing { pts, timing: kept }
+}
+
 impl Anchor {
     // The stamp of the next frame with that geometry.
     fn stamp(self, geometry: Geometry) -> i64
-        requires { ⌜ Steady 4294967294 self × (geometry .«samples_per_frame» ≤ 4096) ⌝ }
+        requires { ⌜ Steady countMost self × (geometry .«samples_per_frame» ≤ samplesMost) ⌝ }
         ensures { λ r. ⌜ r ≡ after (self .pts) (self .«frames_since») geometry ⌝ }
     {
         let rate = geometry.sample_rate;
@@ -89,9 +165,19 @@ impl Timing {
 }
 
 impl Clock {
+    // A push begins.
+    pub fn new(pts: Pts, timing: Timing) -> Clock
+        ensures { λ r. ⌜ r ≡ clockWith pts timing ⌝ }
+    {
+        Clock {
+            new_pts: pts,
+            timing,
+        }
+    }
+
     // A stamp worked out from the anchor, which counts one more.
     fn interpolate(self, geometry: Geometry) -> Stamped
-        requires { ⌜ Good 4294967294 self × (geometry .«samples_per_frame» ≤ 4096) ⌝ }
+        requires { ⌜ Good countMost self × (geometry .«samples_per_frame» ≤ samplesMost) ⌝ }
         ensures { λ r. ⌜ r ≡ interpolated self geometry ⌝ }
     {
         let timing = self.timing;
@@ -133,7 +219,7 @@ impl Clock {
 
     // A thing that begins in the payload: the payload's timestamp if unused, which makes a new anchor, else worked out.
     fn take_stamp(self, geometry: Geometry) -> Stamped
-        requires { ⌜ Good 4294967294 self × (geometry .«samples_per_frame» ≤ 4096) ⌝ }
+        requires { ⌜ Good countMost self × (geometry .«samples_per_frame» ≤ samplesMost) ⌝ }
         ensures { λ r. ⌜ r ≡ takenStamp self geometry ⌝ }
     {
         let new_pts = self.new_pts;
@@ -162,7 +248,7 @@ impl Clock {
 
     // The stamp of a frame that is given; `early`: it began in pending bytes, and uses up the pending stamp.
     pub fn give(self, early: bool, info: AudioFrameInfo) -> Stamped
-        requires { ⌜ Good 4294967294 self × (info .«samples_per_frame» ≤ 4096) ⌝ }
+        requires { ⌜ Good countMost self × (info .«samples_per_frame» ≤ samplesMost) ⌝ }
         ensures { λ r. ⌜ r ≡ give early info self ⌝ }
     {
         let geometry = Geometry {
@@ -185,7 +271,7 @@ impl Clock {
 
     // What is known once a thing with that geometry is kept.
     fn keep_with(self, early: bool, geometry: Geometry) -> Timing
-        requires { ⌜ Good 4294967294 self × (geometry .«samples_per_frame» ≤ 4096) ⌝ }
+        requires { ⌜ Good countMost self × (geometry .«samples_per_frame» ≤ samplesMost) ⌝ }
         ensures { λ r. ⌜ r ≡ keptWith early geometry self ⌝ }
     {
         if early {
@@ -204,7 +290,7 @@ impl Clock {
 
     // What is known once a frame that runs past the end is kept.
     pub fn keep(self, early: bool, info: AudioFrameInfo) -> Timing
-        requires { ⌜ Good 4294967294 self × (info .«samples_per_frame» ≤ 4096) ⌝ }
+        requires { ⌜ Good countMost self × (info .«samples_per_frame» ≤ samplesMost) ⌝ }
         ensures { λ r. ⌜ r ≡ keep early info self ⌝ }
     {
         let geometry = Geometry {
@@ -216,7 +302,7 @@ impl Clock {
 
     // What is known once `left` bytes are kept that are too few for a head.
     pub fn keep_tail(self, early: bool, left: usize) -> Timing
-        requires { ⌜ Good 4294967294 self ⌝ }
+        requires { ⌜ Good countMost self ⌝ }
         ensures { λ r. ⌜ r ≡ tailTiming left early self ⌝ }
     {
         if left == 0 {

@@ -33,7 +33,8 @@ loop-again : tie.Need-loop-again Inv-loop μ-loop
 loop-again c =
     let h = c .before .before in (
       omega arith,
-      front-next (now (h .before .args .src)) (now (h .before .args .dst)) (h .loop .i) (h .loop .dst) 0 (omega arith) (omega arith) (h .loop .inv .1),
+      front-next (now (h .before .args .src)) (now (h .before .args .dst)) (h .loop .i) (h .loop .dst) 0 (omega arith)
+          (omega arith) (h .loop .inv .1),
       simp length-set (omega arith),
     )
 

@@ -1,4 +1,5 @@
--- After i turns the first i bytes of the part stand at the front, and what buf held stands behind them, where the next byte is read.
+-- After i turns the first i bytes of the part stand at the front, and what buf held stands behind them, where the next
+-- byte is read.
 use mathlib.Core.Path.{_≡_, refl, _∙_, ap}
 use Prim.Native.Nat.{ℕ, _-_, _≤_}
 use native.Mathlib.Omega.{arith}
@@ -36,7 +37,8 @@ loop-again : tie.Need-loop-again Inv-loop μ-loop
 loop-again c =
     let h = c .before .before in (
       omega arith,
-      down-next (h .loop .i) (h .before .args .from) (now (h .before .args .buf)) (h .loop .buf) 0 (omega arith) (h .loop .inv .1),
+      down-next (h .loop .i) (h .before .args .from) (now (h .before .args .buf)) (h .loop .buf) 0 (omega arith)
+          (h .loop .inv .1),
       simp length-set (omega arith),
     )
 
@@ -49,7 +51,8 @@ returns c =
     let b = now (h .before .args .buf) in
     let d = drop (h .before .args .from) b in
     let e : h .loop .i ≡ h .before .args .n = omega arith in
-    h .loop .inv .1 ∙ ap (λ (k : ℕ). front k d b) e ∙ front-until d b (h .before .args .n) (simp length-drop (omega arith))
+    h .loop .inv .1 ∙ ap (λ (k : ℕ). front k d b) e ∙ front-until d b (h .before .args .n)
+    (simp length-drop (omega arith))
 
 pub copy-down-spec : {M : Type 1} → statement M
 copy-down-spec =

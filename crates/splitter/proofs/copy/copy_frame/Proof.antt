@@ -1,4 +1,5 @@
--- A part of J lies in the payload, or in the pending bytes, or begins in those and ends in the payload: there one write follows another.
+-- A part of J lies in the payload, or in the pending bytes, or begins in those and ends in the payload: there one write
+-- follows another.
 use mathlib.Core.Path.{_≡_, sym, _∙_, ap}
 use mathlib.Core.List.{List, _++_}
 use Prim.Native.Nat.{ℕ, _+_, _-_}
@@ -11,6 +12,22 @@ use Rattle.splitter.proofs.Buffers.{two-writes, slice-high, slice-low, 
 use borrow.Author.Needs.{needs}
 use Rattle.splitter.proofs.copy.copy_frame.Statement.{statement}
 use Rattle.splitter.proofs.copy.copy_frame.Tie as tie
+
+-- ---- the states by name: the part lies in the payload, in the pending bytes, or in both
+
+abbrev high : tie.After-copy-front → tie.Start
+high c = c .before .before .before .before .before .before .before
+
+abbrev low : tie.After-copy-front2 → tie.Start
+low c = c .before .before .before .before .before .before .before .before
+
+abbrev mid : tie.After-copy-front3 → tie.Start
+mid c = c .before .before .before .before .before .before .before .before
+
+abbrev first : tie.After-copy-front4 → tie.After-copy-front3
+first c = c .before .before .before .before .before
+
+-- ---- the needs
 
 add-end : tie.Need-add-end
 add-end c = search needs
@@ -35,14 +52,16 @@ same-length c = search needs
 
 returns : tie.Need-returns
 returns c =
-    let s = c .before .before .before .before .before .before .before .before .before in
+    let k = c .before .before in
+    let s = high k in
     let p = s .args .carried in
     let a = s .args .from - p in
     let q = now (s .args .payload) in
-    let k : s .args .from + s .args .n - p - a ≡ s .args .n = omega arith in
-    c .before .before .copy-front .ensures
+    let m : s .args .from + s .args .n - p - a ≡ s .args .n = omega arith in
+    k .copy-front .ensures
     ∙ ap (λ (l : List ℕ). over l (now (s .args .dst)))
-    (ap (λ (m : ℕ). take m (drop a q)) k ∙ sym (slice-high p (now (s .args .pending)) q (s .pre .0) (s .args .from) (s .args .n) (omega arith)))
+    (ap (λ (n : ℕ). take n (drop a q)) m ∙ sym
+    (slice-high p (now (s .args .pending)) q (s .pre .0) (s .args .from) (s .args .n) (omega arith)))
 
 sub-copy-front-2 : tie.Need-sub-copy-front-2
 sub-copy-front-2 c = search needs
@@ -61,13 +80,15 @@ same-length-2 c = search needs
 
 returns-2 : tie.Need-returns-2
 returns-2 c =
-    let s = c .before .before .before .before .before .before .before .before .before .before in
+    let k = c .before .before in
+    let s = low k in
     let p = s .args .carried in
-    let k : s .args .from + s .args .n - s .args .from ≡ s .args .n = omega arith in
-    c .before .before .copy-front2 .ensures
+    let m : s .args .from + s .args .n - s .args .from ≡ s .args .n = omega arith in
+    k .copy-front2 .ensures
     ∙ ap (λ (l : List ℕ). over l (now (s .args .dst)))
-    (ap (λ (m : ℕ). take m (drop (s .args .from) (now (s .args .pending)))) k
-    ∙ sym (slice-low p (now (s .args .pending)) (now (s .args .payload)) (s .pre .0) (s .args .from) (s .args .n) (omega arith)))
+    (ap (λ (n : ℕ). take n (drop (s .args .from) (now (s .args .pending)))) m
+    ∙ sym (slice-low p (now (s .args .pending)) (now (s .args .payload)) (s .pre .0) (s .args .from) (s .args .n)
+    (omega arith)))
 
 sub-k : tie.Need-sub-k
 sub-k c = search needs
@@ -113,20 +134,22 @@ same-length-3 c = search needs
 
 returns-3 : tie.Need-returns-3
 returns-3 c =
-    let s = c .before .before .before .before .before .before .before .before .before .before .before .before .before .before .before in
+    let w = c .before .before .copy-front4 in
+    let s = mid (first (c .before .before)) in
     let p = s .args .carried in
     let f = s .args .from in
     let d = now (s .args .dst) in
-    let x = c .before .before .before .before .before .before .before .copy-front3 in
+    let x = first (c .before .before) .copy-front3 in
     let k = p - f in
     let l = take k (drop f (now (s .args .pending))) in
     let n : f + s .args .n - p - 0 ≡ s .args .n - k = omega arith in
-    two-writes k l (take (f + s .args .n - p - 0) (now (s .args .payload))) d (x .last .0) (c .before .before .copy-front4 .last .0)
+    two-writes k l (take (f + s .args .n - p - 0) (now (s .args .payload))) d (x .last .0) (w .last .0)
     (length-take-le k (drop f (now (s .args .pending))) (simp length-drop (omega arith)))
-    (omega arith) (x .ensures) (c .before .before .copy-front4 .ensures)
+    (omega arith) (x .ensures) (w .ensures)
     ∙ ap (λ (z : List ℕ). over z d)
     (ap (λ (m : ℕ). l ++ take m (now (s .args .payload))) n
-    ∙ sym (slice-mid p (now (s .args .pending)) (now (s .args .payload)) (s .pre .0) f (s .args .n) (omega arith) (omega arith)))
+    ∙ sym (slice-mid p (now (s .args .pending)) (now (s .args .payload)) (s .pre .0) f (s .args .n) (omega arith)
+    (omega arith)))
 
 pub copy-frame-spec : {M : Type 1} → statement M
 copy-frame-spec =

@@ -12,6 +12,22 @@ use borrow.Author.Needs.{needs}
 use Rattle.splitter.proofs.copy.copy_front.Statement.{statement}
 use Rattle.splitter.proofs.copy.copy_front.Tie as tie
 
+-- ---- the states by name
+
+abbrev few : tie.After-copy-count → tie.Start
+few c = c .before .before .before .before .before
+
+abbrev many : tie.After-copy-count2 → tie.Start
+many c = c .before .before .before .before .before
+
+abbrev counted : tie.After-block-at → tie.After-copy-count2
+counted c = c .before .before .before
+
+abbrev read : tie.After-put-block → tie.After-block-at
+read c = c .before .before
+
+-- ---- the needs
+
 copy-count-requires : tie.Need-copy-count-requires
 copy-count-requires c κs = search needs
 
@@ -20,8 +36,9 @@ same-length c = search needs
 
 returns : tie.Need-returns
 returns c =
-    let a = c .before .before .before .before .before .before .before .args in
-    c .before .before .copy-count .ensures ∙ ap (λ (l : List ℕ). over l (now (a .dst))) (take-length (now (a .src)))
+    let k = c .before .before in
+    let a = few k .args in
+    k .copy-count .ensures ∙ ap (λ (l : List ℕ). over l (now (a .dst))) (take-length (now (a .src)))
 
 sub-copy-count : tie.Need-sub-copy-count
 sub-copy-count c = search needs
@@ -40,13 +57,16 @@ same-length-2 c = search needs
 
 returns-2 : tie.Need-returns-2
 returns-2 c =
-    let a = c .before .before .before .before .before .before .before .before .before .before .before .before .args in
-    let x = c .before .before .before .before .before .before .before .copy-count2 in
+    let w = c .before .before in
+    let r = read w in
+    let x = counted r .copy-count2 in
+    let a = many (counted r) .args in
     let z = x .last .0 in
     let n = length (now (a .src)) in
-    c .before .before .put-block .ensures
-    ∙ ap (λ (l : List ℕ). take (n - 32) z ++ (l ++ drop (n - 32 + 32) z)) (c .before .before .before .before .block-at .ensures)
-    ∙ last-block (n - n % 32) (n - 32) 32 (now (a .src)) (now (a .dst)) z (omega arith) (omega arith) (omega arith) (x .ensures)
+    w .put-block .ensures
+    ∙ ap (λ (l : List ℕ). take (n - 32) z ++ (l ++ drop (n - 32 + 32) z)) (r .block-at .ensures)
+    ∙ last-block (n - n % 32) (n - 32) 32 (now (a .src)) (now (a .dst)) z (omega arith) (omega arith) (omega arith)
+    (x .ensures)
 
 pub copy-front-spec : {M : Type 1} → statement M
 copy-front-spec =

@@ -1,4 +1,5 @@
--- J from a place in the payload is a part of it; from a place in the pending bytes, those come first, moved or in place, then the payload.
+-- J from a place in the payload is a part of it; from a place in the pending bytes, those come first, moved or in
+-- place, then the payload.
 use mathlib.Core.Path.{_≡_, sym, _∙_, ap}
 use mathlib.Core.Logic.{⊎-elim}
 use mathlib.Core.List.{List}
@@ -12,6 +13,19 @@ use Rattle.splitter.proofs.Buffers.{over-length, in-place, two-writes, 
 use borrow.Author.Needs.{needs}
 use Rattle.splitter.proofs.copy.keep_tail.Statement.{statement}
 use Rattle.splitter.proofs.copy.keep_tail.Tie as tie
+
+-- ---- the states by name
+
+abbrev high : tie.After-copy-front → tie.Start
+high c = c .before .before .before .before .before .before
+
+abbrev start : tie.Joined2 → tie.Start
+start c = c .before .before .before .before
+
+abbrev moved : tie.After-copy-front2 → tie.Joined2
+moved c = c .before .before
+
+-- ---- the needs
 
 sub-copy-front : tie.Need-sub-copy-front
 sub-copy-front c = search needs
@@ -30,14 +44,16 @@ same-length c = search needs
 
 returns : tie.Need-returns
 returns c =
-    let s = c .before .before .before .before .before .before .before .before in
+    let k = c .before .before in
+    let s = high k in
     let p = s .args .carried in
     let a = s .args .from - p in
     let q = now (s .args .payload) in
     let d = now (s .args .pending) in
-    c .before .before .copy-front .ensures
+    k .copy-front .ensures
     ∙ ap (λ (l : List ℕ). over l d)
-    (take-all (length q - a) (drop a q) (simp length-drop (omega arith)) ∙ sym (joined-high p d q (s .pre .0) (s .args .from) (omega arith)))
+    (take-all (length q - a) (drop a q) (simp length-drop (omega arith)) ∙ sym
+    (joined-high p d q (s .pre .0) (s .args .from) (omega arith)))
 
 sub-k : tie.Need-sub-k
 sub-k c = search needs
@@ -48,15 +64,18 @@ copy-down-requires c κs = search needs
 -- the pending bytes from the place on stand at the front
 stands : (c : tie.Joined2)
     → c .if2 .pending
-    ≡ over (take (c .before .before .before .before .args .carried - c .before .before .before .before .args .from) (drop (c .before .before .before .before .args .from) (now (c .before .before .before .before .args .pending)))) (now (c .before .before .before .before .args .pending))
+    ≡ over (take (start c .args .carried - start c .args .from)
+    (drop (start c .args .from) (now (start c .args .pending)))) (now (start c .args .pending))
 stands c =
-    let s = c .before .before .before .before in
+    let s = start c in
     let d = now (s .args .pending) in
-    ⊎-elim (λ w. w .5 ∙ w .2 .ensures) (λ w. in-place (s .args .from) (s .args .carried - s .args .from) d (c .if2 .pending) (w .0 .left) (w .1) (omega arith)) (c .if2 .came)
+    ⊎-elim (λ w. w .5 ∙ w .2 .ensures)
+    (λ w. in-place (s .args .from) (s .args .carried - s .args .from) d (c .if2 .pending) (w .0 .left) (w .1)
+    (omega arith)) (c .if2 .came)
 
-as-long : (c : tie.Joined2) → length (c .if2 .pending) ≡ length (now (c .before .before .before .before .args .pending))
+as-long : (c : tie.Joined2) → length (c .if2 .pending) ≡ length (now (start c .args .pending))
 as-long c =
-    let s = c .before .before .before .before in
+    let s = start c in
     let d = drop (s .args .from) (now (s .args .pending)) in
     let k = s .args .carried - s .args .from in
     ap length (stands c)
@@ -82,22 +101,23 @@ copy-front-requires-2 c κs =
 
 same-length-2 : tie.Need-same-length-2
 same-length-2 c =
-    let l = as-long (c .before .before .before .before) in
+    let l = as-long (moved (c .before .before)) in
     omega arith
 
 returns-2 : tie.Need-returns-2
 returns-2 c =
-    let s = c .before .before .before .before .before .before .before .before in
+    let w = c .before .before in
+    let j = moved w in
+    let s = start j in
     let p = s .args .carried in
     let f = s .args .from in
     let d = now (s .args .pending) in
     let q = now (s .args .payload) in
-    let j = c .before .before .before .before in
     let l = as-long j in
     let k = p - f in
-    two-writes k (take k (drop f d)) q d (j .if2 .pending) (c .before .before .copy-front2 .last .0)
+    two-writes k (take k (drop f d)) q d (j .if2 .pending) (w .copy-front2 .last .0)
     (length-take-le k (drop f d) (simp length-drop (omega arith)))
-    (omega arith) (stands j) (c .before .before .copy-front2 .ensures)
+    (omega arith) (stands j) (w .copy-front2 .ensures)
     ∙ ap (λ (z : List ℕ). over z d) (sym (joined-low p d q (s .pre .0) f (omega arith)))
 
 pub keep-tail-spec : {M : Type 1} → statement M

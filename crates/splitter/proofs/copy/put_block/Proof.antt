@@ -38,7 +38,8 @@ loop-again c =
     let h = c .before in
     let a = h .before .args in (
       omega arith,
-      paste-next (a .at) (h .loop .k) (a .t3) (now (a .dst)) (h .loop .dst) 0 (omega arith) (omega arith) (h .loop .inv .1),
+      paste-next (a .at) (h .loop .k) (a .t3) (now (a .dst)) (h .loop .dst) 0 (omega arith) (omega arith)
+          (h .loop .inv .1),
       simp length-set (omega arith),
     )
 
@@ -50,7 +51,8 @@ returns c =
     let h = c .before in
     let a = h .before .args in
     let e : h .loop .k ≡ 32 = omega arith in
-    h .loop .inv .1 ∙ ap (λ (k : ℕ). paste (now (a .dst)) (a .at) (a .t3) k) e ∙ paste-all (a .at) 32 (a .t3) (now (a .dst)) (omega arith)
+    h .loop .inv .1 ∙ ap (λ (k : ℕ). paste (now (a .dst)) (a .at) (a .t3) k) e ∙ paste-all (a .at) 32 (a .t3)
+    (now (a .dst)) (omega arith)
 
 pub put-block-spec : {M : Type 1} → statement M
 put-block-spec =

@@ -1,5 +1,5 @@
--- The search stays on the walk from the place where it began, and each way out of it is what it met. What is left of the joined bytes gets
--- less at each step.
+-- The search stays on the walk from the place where it began, and each way out of it is what it met. What is left of
+-- the joined bytes gets less at each step.
 use borrow.Author.Needs.{needs}
 use borrow.Author.Tests.{not-true, not-false}
 use mathlib.Core.Path.{_≡_, sym, _∙_, ap}
@@ -22,7 +22,8 @@ use Rattle.splitter.proofs.push.search.Statement.{statement}
 use Rattle.splitter.proofs.push.search.Tie as tie
 
 abbrev Inv-loop : tie.InvT-loop
-Inv-loop syntax need pending carried payload walk₀ clock₀ total walk clock = Slid syntax (take carried pending ++ payload) carried clock₀ walk₀ clock walk
+Inv-loop syntax need pending carried payload walk₀ clock₀ total walk clock =
+    Slid syntax (take carried pending ++ payload) carried clock₀ walk₀ clock walk
 
 abbrev μ-loop : tie.MeasureT-loop
 μ-loop syntax need pending carried payload walk₀ clock₀ total walk clock = carried + length payload - walk .place
@@ -40,11 +41,13 @@ whole s = joined-length (s .args .carried) (now (s .args .pending)) (now (s .arg
 abbrev start : tie.At-loop Inv-loop μ-loop → tie.Start Inv-loop μ-loop
 start h = h .before .before .before
 
-few-lost : (h : tie.At-loop Inv-loop μ-loop) (n : ℕ) → h .loop .walk .place + n ≤ length (J (start h)) → Small (h .loop .walk) n
+few-lost : (h : tie.At-loop Inv-loop μ-loop) (n : ℕ) → h .loop .walk .place + n ≤ length (J (start h))
+    → Small (h .loop .walk) n
 few-lost h n k = slid-small (h .loop .inv) (start h .pre .small) (omega (arith, whole (start h))) k
 
 -- the header need is left
-enough : (c : tie.Else1 Inv-loop μ-loop) → c .before .loop .walk .place + needOf (start (c .before) .args .syntax) ≤ length (J (start (c .before)))
+enough : (c : tie.Else1 Inv-loop μ-loop)
+    → c .before .loop .walk .place + needOf (start (c .before) .args .syntax) ≤ length (J (start (c .before)))
 enough c = omega (arith, whole (start (c .before)))
 
 -- ---- a head that reads
@@ -55,11 +58,14 @@ at c = c .before .before .before .before .before .before
 abbrev info : tie.After-struct-known Inv-loop μ-loop → AudioFrameInfo
 info c = c .before .before .info .given .0 .0
 
-reads : (c : tie.After-struct-known Inv-loop μ-loop) → headOf (start (at c) .args .syntax) (drop (at c .loop .walk .place) (J (start (at c)))) ≡ Read (info c)
+reads : (c : tie.After-struct-known Inv-loop μ-loop)
+    → headOf (start (at c) .args .syntax) (drop (at c .loop .walk .place) (J (start (at c)))) ≡ Read (info c)
 reads c = sym (c .before .before .before .before .head-at .ensures) ∙ c .before .before .info .given .1
 
 -- the frame is whole
-inside : (c : tie.Else3 Inv-loop μ-loop) → at (c .before .before .before) .loop .walk .place + info (c .before .before .before) .«frame_len» ≤ length (J (start (at (c .before .before .before))))
+inside : (c : tie.Else3 Inv-loop μ-loop)
+    → at (c .before .before .before) .loop .walk .place + info (c .before .before .before) .«frame_len» ≤ length
+    (J (start (at (c .before .before .before))))
 inside c = omega (arith, whole (start (at (c .before .before .before))))
 
 -- ---- the needs
@@ -104,7 +110,9 @@ loop-less c =
 loop-again : tie.Need-loop-again Inv-loop μ-loop
 loop-again c =
     rw (c .voided .ensures, c .before .lose .ensures)
-    (slid-run (c .before .before .before .before .before .before .before .loop .inv) (sym (c .before .before .before .before .before .head-at .ensures) ∙ c .before .before .before .enum-told .given .1) (c .before .before .unread-run .ensures))
+    (slid-run (c .before .before .before .before .before .before .before .loop .inv)
+    (sym (c .before .before .before .before .before .head-at .ensures)
+    ∙ c .before .before .before .enum-told .given .1) (c .before .before .unread-run .ensures))
 
 sub-if3 : tie.Need-sub-if3 Inv-loop μ-loop
 sub-if3 c = omega (arith, whole (start (at (c .before))))
@@ -123,7 +131,11 @@ voided-requires-2 c κs = search needs
 lose-requires-2 : tie.Need-lose-requires-2 Inv-loop μ-loop
 lose-requires-2 c κs =
     let d = c .before in
-    few-lost (at d) 1 (omega (arith, enough (d .before .before .before .before .before), need-least (start (at d) .args .syntax)))
+    few-lost (at d) 1 (omega (
+      arith,
+      enough (d .before .before .before .before .before),
+      need-least (start (at d) .args .syntax),
+    ))
 
 loop-less-2 : tie.Need-loop-less-2 Inv-loop μ-loop
 unfolding lostWalk
@@ -138,8 +150,15 @@ loop-again-2 c =
     rw (c .lose2 .ensures)
     (⊎-elim
     (λ w. rw (w .7 ∙ w .6 .ensures)
-    (slid-false (at d .loop .inv) (reads d) (enough (d .before .before .before .before .before)) (omega (arith, w .0 .taken, s .pre .need-is)) (omega (arith, w .2 .left, at d .loop .inv .reached, whole s)) (sym (w .4 .ensures) ∙ not-false (w .4 .result) (w .5 .left))))
-    (λ w. rw (w .1) (slid-below (at d .loop .inv) (reads d) (enough (d .before .before .before .before .before)) (omega (arith, s .pre .need-is))))
+    (slid-false (at d .loop .inv) (reads d) (enough (d .before .before .before .before .before))
+    (omega (arith, w .0 .taken, s .pre .need-is)) (omega (
+      arith,
+      w .2 .left,
+      at d .loop .inv .reached,
+      whole s,
+    )) (sym (w .4 .ensures) ∙ not-false (w .4 .result) (w .5 .left))))
+    (λ w. rw (w .1) (slid-below (at d .loop .inv) (reads d) (enough (d .before .before .before .before .before))
+    (omega (arith, s .pre .need-is))))
     (c .before .if2 .came))
 
 returns : tie.Need-returns Inv-loop μ-loop
@@ -148,13 +167,29 @@ returns c = record { slid = c .before .loop .inv; met = omega (arith, whole (sta
 returns-2 : tie.Need-returns-2 Inv-loop μ-loop
 returns-2 c =
     let d = c .before .before .before in
-    record { slid = at d .loop .inv; met = (reads d, enough (d .before .before .before .before .before), omega arith, omega (arith, whole (start (at d)))) }
+    record {
+      slid = at d .loop .inv;
+      met = (
+        reads d,
+        enough (d .before .before .before .before .before),
+        omega arith,
+        omega (arith, whole (start (at d))),
+      );
+    }
 
 returns-3 : tie.Need-returns-3 Inv-loop μ-loop
 returns-3 c =
     let d = c .before .before .before .before .before .before in
     let f = c .before .false-sync in
-    record { slid = at d .loop .inv; met = (reads d, omega (arith, c .before .before .before .before .before .if2 .taken, start (at d) .pre .need-is), inside (c .before .before .before), sym (f .ensures) ∙ not-true (f .result) (c .if4 .taken)) }
+    record {
+      slid = at d .loop .inv;
+      met = (
+        reads d,
+        omega (arith, c .before .before .before .before .before .if2 .taken, start (at d) .pre .need-is),
+        inside (c .before .before .before),
+        sym (f .ensures) ∙ not-true (f .result) (c .if4 .taken),
+      );
+    }
 
 pub search-spec : {M : Type 1} → statement M
 search-spec =

@@ -7,6 +7,7 @@ use mir.Val.{toZ, ofZ}
 use mir.Syntax.{w64}
 use denote.Ref.{now}
 use Rattle.heads.specs.Numbers.{kindNumber, bitRateNumber}
+use Rattle.heads.specs.declared.info.AudioFrameInfo.{AudioFrameInfo}
 use Rattle.splitter.specs.Push.{over}
 use Rattle.splitter.specs.Steps.{rowBy}
 use Rattle.splitter.specs.declared.timing.Pts.{Pts}
@@ -14,6 +15,39 @@ use Rattle.splitter.proofs.Buffers.{eight, wide}
 use borrow.Author.Needs.{needs}
 use Rattle.splitter.proofs.rows.write_row.Statement.{statement}
 use Rattle.splitter.proofs.rows.write_row.Tie as tie
+
+-- ---- the states by name
+
+abbrev start : tie.After-number → tie.Start
+start c = c .before .before
+
+abbrev kind : tie.After-number2 → tie.After-number
+kind c = c .before .before .before .before
+
+abbrev info : tie.After-number2 → AudioFrameInfo
+info c = start (kind c) .args .info
+
+-- ---- the head's six numbers, as signed ones
+
+length-is : (c : tie.After-number2) → toZ w64 (info c .«frame_len») ≡ pos (info c .«frame_len»)
+length-is c = wide (info c .«frame_len») (omega arith)
+
+kind-is : (c : tie.After-number2) → toZ w64 (kind c .number .result) ≡ pos (kindNumber (info c .kind))
+kind-is c = wide (kind c .number .result) (omega arith) ∙ ap pos (kind c .number .ensures)
+
+samples-are : (c : tie.After-number2) → toZ w64 (info c .«samples_per_frame») ≡ pos (info c .«samples_per_frame»)
+samples-are c = wide (info c .«samples_per_frame») (omega arith)
+
+rate-is : (c : tie.After-number2) → toZ w64 (info c .«sample_rate») ≡ pos (info c .«sample_rate»)
+rate-is c = wide (info c .«sample_rate») (omega arith)
+
+channels-are : (c : tie.After-number2) → toZ w64 (info c .channels) ≡ pos (info c .channels)
+channels-are c = wide (info c .channels) (omega arith)
+
+bit-rate-is : (c : tie.After-number2) → toZ w64 (c .number2 .result) ≡ pos (bitRateNumber (info c .«bit_rate»))
+bit-rate-is c = wide (c .number2 .result) (omega arith) ∙ ap pos (c .number2 .ensures)
+
+-- ---- the needs
 
 cast-row : tie.Need-cast-row
 cast-row c = search needs
@@ -81,21 +115,16 @@ same-length c = simp length-set (omega arith)
 returns : tie.Need-returns
 unfolding rowBy
 returns c =
-    let s = c .before .before .before .before .before .before .before .before .before in
-    let i = s .args .info in
-    let k = c .before .before .before .before .before .before .before .number in
-    let r = c .before .before .before .number2 in
-    let q1 : toZ w64 (i .«frame_len») ≡ pos (i .«frame_len») = wide (i .«frame_len») (omega arith) in
-    let q2 : toZ w64 (k .result) ≡ pos (kindNumber (i .kind)) = wide (k .result) (omega arith) ∙ ap pos (k .ensures) in
-    let q3 : toZ w64 (i .«samples_per_frame») ≡ pos (i .«samples_per_frame») = wide (i .«samples_per_frame») (omega arith) in
-    let q4 : toZ w64 (i .«sample_rate») ≡ pos (i .«sample_rate») = wide (i .«sample_rate») (omega arith) in
-    let q5 : toZ w64 (i .channels) ≡ pos (i .channels) = wide (i .channels) (omega arith) in
-    let q6 : toZ w64 (r .result) ≡ pos (bitRateNumber (i .«bit_rate»)) = wide (r .result) (omega arith) ∙ ap pos (r .ensures) in
-    let z = c .before .pts .given .0 .0 in
-    let q7 : toZ w64 (ofZ w64 z) ≡ z = search needs in
-    rw (q1, q2, q3, q4, q5, q6, q7)
-    (eight (now (s .args .row)) (pos (i .«frame_len»)) (pos (kindNumber (i .kind))) (pos (i .«samples_per_frame»)) (pos (i .«sample_rate»)) (pos (i .channels)) (pos (bitRateNumber (i .«bit_rate»))) (pos 1) z (s .pre .0)
-    ∙ ap (λ (t : Pts). over (rowBy i t) (now (s .args .row))) (sym (c .before .pts .given .1)))
+    let p = c .before in
+    let n = p .before .before in
+    let s = start (kind n) in
+    let i = info n in
+    let z = p .pts .given .0 .0 in
+    let t : toZ w64 (ofZ w64 z) ≡ z = search needs in
+    rw (length-is n, kind-is n, samples-are n, rate-is n, channels-are n, bit-rate-is n, t)
+    (eight (now (s .args .row)) (pos (i .«frame_len»)) (pos (kindNumber (i .kind))) (pos (i .«samples_per_frame»))
+    (pos (i .«sample_rate»)) (pos (i .channels)) (pos (bitRateNumber (i .«bit_rate»))) (pos 1) z (s .pre .0)
+    ∙ ap (λ (t : Pts). over (rowBy i t) (now (s .args .row))) (sym (p .pts .given .1)))
 
 same-length-2 : tie.Need-same-length-2
 same-length-2 c = simp length-set (omega arith)
@@ -103,18 +132,12 @@ same-length-2 c = simp length-set (omega arith)
 returns-2 : tie.Need-returns-2
 unfolding rowBy
 returns-2 c =
-    let s = c .before .before .before .before .before .before .before .before in
-    let i = s .args .info in
-    let k = c .before .before .before .before .before .before .number in
-    let r = c .before .before .number2 in
-    let q1 : toZ w64 (i .«frame_len») ≡ pos (i .«frame_len») = wide (i .«frame_len») (omega arith) in
-    let q2 : toZ w64 (k .result) ≡ pos (kindNumber (i .kind)) = wide (k .result) (omega arith) ∙ ap pos (k .ensures) in
-    let q3 : toZ w64 (i .«samples_per_frame») ≡ pos (i .«samples_per_frame») = wide (i .«samples_per_frame») (omega arith) in
-    let q4 : toZ w64 (i .«sample_rate») ≡ pos (i .«sample_rate») = wide (i .«sample_rate») (omega arith) in
-    let q5 : toZ w64 (i .channels) ≡ pos (i .channels) = wide (i .channels) (omega arith) in
-    let q6 : toZ w64 (r .result) ≡ pos (bitRateNumber (i .«bit_rate»)) = wide (r .result) (omega arith) ∙ ap pos (r .ensures) in
-    rw (q1, q2, q3, q4, q5, q6)
-    (eight (now (s .args .row)) (pos (i .«frame_len»)) (pos (kindNumber (i .kind))) (pos (i .«samples_per_frame»)) (pos (i .«sample_rate»)) (pos (i .channels)) (pos (bitRateNumber (i .«bit_rate»))) (pos 0) (pos 0) (s .pre .0)
+    let n = c .before .before in
+    let s = start (kind n) in
+    let i = info n in
+    rw (length-is n, kind-is n, samples-are n, rate-is n, channels-are n, bit-rate-is n)
+    (eight (now (s .args .row)) (pos (i .«frame_len»)) (pos (kindNumber (i .kind))) (pos (i .«samples_per_frame»))
+    (pos (i .«sample_rate»)) (pos (i .channels)) (pos (bitRateNumber (i .«bit_rate»))) (pos 0) (pos 0) (s .pre .0)
     ∙ ap (λ (t : Pts). over (rowBy i t) (now (s .args .row))) (sym (c .enum-told .given .1)))
 
 pub write-row-spec : {M : Type 1} → statement M

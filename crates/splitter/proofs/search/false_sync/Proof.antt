@@ -41,12 +41,14 @@ enum-told-2 c = search needs
 returns-2 : tie.Need-returns-2
 returns-2 c =
     let s = c .before .before .before .before .before .before in
-    head-there (s .args .syntax) (J s) (s .args .end) _ (sym (c .before .before .head-at .ensures) ∙ c .enum-told .given .1)
+    head-there (s .args .syntax) (J s) (s .args .end) _
+    (sym (c .before .before .head-at .ensures) ∙ c .enum-told .given .1)
 
 returns-3 : tie.Need-returns-3
 returns-3 c =
     let s = c .before .before .before .before .before .before in
-    none-there (s .args .syntax) (J s) (s .args .end) (omega (arith, whole s)) _ (sym (c .before .before .head-at .ensures) ∙ c .enum-told2 .given .1)
+    none-there (s .args .syntax) (J s) (s .args .end) (omega (arith, whole s)) _
+    (sym (c .before .before .head-at .ensures) ∙ c .enum-told2 .given .1)
 
 pub false-sync-spec : {M : Type 1} → statement M
 false-sync-spec =

@@ -9,6 +9,19 @@ use borrow.Author.Needs.{needs}
 use Rattle.splitter.proofs.search.gathered_head.Statement.{statement}
 use Rattle.splitter.proofs.search.gathered_head.Tie as tie
 
+-- ---- the states by name
+
+abbrev start : tie.After-least → tie.Start
+start c = c .before .before .before
+
+abbrev measured : tie.After-copy-frame → tie.After-least
+measured c = c .before .before
+
+abbrev gathered : tie.After-window3 → tie.After-copy-frame
+gathered c = c .before .before
+
+-- ---- the needs
+
 sub-least : tie.Need-sub-least
 sub-least c = search needs
 
@@ -28,17 +41,21 @@ array-share-prefix-window : tie.Need-array-share-prefix-window
 array-share-prefix-window c = search needs
 
 slice-aggregate-parse : tie.Need-slice-aggregate-parse
-slice-aggregate-parse c = sym (length-take-le (c .before .before .before .before .least .result) (c .before .before .copy-frame .last .0) (omega arith))
+slice-aggregate-parse c =
+    sym (length-take-le (measured (gathered c) .least .result) (gathered c .copy-frame .last .0) (omega arith))
 
 parse-requires : tie.Need-parse-requires
 parse-requires c κs = search needs
 
 returns : tie.Need-returns
 returns c =
-    let s = c .before .before .before .before .before .before .before .before in
-    c .parse .ensures
-    ∙ head-gathered (s .args .syntax) (s .args .carried) (now (s .args .pending)) (now (s .args .payload)) (s .pre .0) (s .args .at) (c .before .before .before .before .before .least .result)
-    (c .before .before .before .copy-frame .last .0) (replicate 8 0) (omega arith) (c .before .before .before .before .before .least .ensures) (c .before .before .before .copy-frame .ensures)
+    let g = gathered (c .before) in
+    let m = measured g in
+    let s = start m in
+    c .parse .ensures .0
+    ∙ head-gathered (s .args .syntax) (s .args .carried) (now (s .args .pending)) (now (s .args .payload)) (s .pre .0)
+    (s .args .at) (m .least .result)
+    (g .copy-frame .last .0) (replicate 8 0) (omega arith) (m .least .ensures) (g .copy-frame .ensures)
 
 pub gathered-head-spec : {M : Type 1} → statement M
 gathered-head-spec =

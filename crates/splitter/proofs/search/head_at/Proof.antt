@@ -22,7 +22,8 @@ parse-requires c κs = search needs
 returns : tie.Need-returns
 returns c =
     let s = c .before .before .before .before .before in
-    c .parse .ensures ∙ head-high (s .args .syntax) (s .args .carried) (now (s .args .pending)) (now (s .args .payload)) (s .pre .0) (s .args .at) (omega arith)
+    c .parse .ensures .0 ∙ head-high (s .args .syntax) (s .args .carried) (now (s .args .pending))
+    (now (s .args .payload)) (s .pre .0) (s .args .at) (omega arith)
 
 sub-if2 : tie.Need-sub-if2
 sub-if2 c = search needs
@@ -42,7 +43,8 @@ parse-requires-2 c κs = search needs
 returns-2 : tie.Need-returns-2
 returns-2 c =
     let s = c .before .before .before .before .before .before in
-    c .parse2 .ensures ∙ head-low (s .args .syntax) (s .args .carried) (now (s .args .pending)) (now (s .args .payload)) (s .pre .0) (s .args .at) (omega arith)
+    c .parse2 .ensures .0 ∙ head-low (s .args .syntax) (s .args .carried) (now (s .args .pending))
+    (now (s .args .payload)) (s .pre .0) (s .args .at) (omega arith)
 
 gathered-head-requires : tie.Need-gathered-head-requires
 gathered-head-requires c κs = search needs

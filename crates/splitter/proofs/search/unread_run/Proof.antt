@@ -10,6 +10,22 @@ use borrow.Author.Needs.{needs}
 use Rattle.splitter.proofs.search.unread_run.Statement.{statement}
 use Rattle.splitter.proofs.search.unread_run.Tie as tie
 
+-- ---- the states by name
+
+abbrev start : tie.After-shared-slice-known2 → tie.Start
+start c = c .before .before
+
+abbrev low : tie.After-least → tie.After-shared-slice-known2
+low c = c .before .before
+
+abbrev measured : tie.After-skip-to-sync → tie.After-least
+measured c = c .before .before
+
+abbrev high : tie.After-skip-to-sync2 → tie.After-shared-slice-known2
+high c = c .before .before .before
+
+-- ---- the needs
+
 add-from : tie.Need-add-from
 add-from c = search needs
 
@@ -20,7 +36,7 @@ sub-end : tie.Need-sub-end
 sub-end c = search needs
 
 add-end-2 : tie.Need-add-end-2
-add-end-2 c = omega (arith, need-least (c .before .before .args .syntax))
+add-end-2 c = omega (arith, need-least (start c .args .syntax))
 
 least-requires : tie.Need-least-requires
 least-requires c κs = search needs
@@ -39,15 +55,24 @@ skip-to-sync-requires c κs = search needs
 
 add-result : tie.Need-add-result
 add-result c =
-    let s = c .before .before .before .before .before .before .args in
-    omega (arith, place-within (s .syntax) (c .before .before .least .result - (s .at + 1)) (s .at + 1) (c .skip-to-sync .result) (now (s .pending)) (c .skip-to-sync .ensures))
+    let m = measured c in
+    let s = start (low m) .args in
+    omega (
+      arith,
+      place-within (s .syntax) (m .least .result - (s .at + 1)) (s .at + 1) (c .skip-to-sync .result)
+          (now (s .pending)) (c .skip-to-sync .ensures),
+    )
 
 returns : tie.Need-returns
 returns c =
-    let s = c .before .before .before .before .before .before in
-    unread-low (s .args .syntax) (s .args .carried) (now (s .args .pending)) (now (s .args .payload)) (s .pre .0) (s .args .at) (s .args .need) (c .skip-to-sync .result) (s .pre .1) (s .pre .2)
-    (known (now (s .args .pending)) (c .before .before .before .before .before .shared-slice-known .given)) (known (now (s .args .payload)) (c .before .before .before .before .shared-slice-known2 .given))
-    (c .before .before .least .result) (omega arith) (c .before .before .least .ensures) (c .skip-to-sync .ensures)
+    let m = measured c in
+    let b = low m in
+    let s = start b in
+    unread-low (s .args .syntax) (s .args .carried) (now (s .args .pending)) (now (s .args .payload)) (s .pre .0)
+    (s .args .at) (s .args .need) (c .skip-to-sync .result) (s .pre .1) (s .pre .2)
+    (known (now (s .args .pending)) (b .before .shared-slice-known .given))
+    (known (now (s .args .payload)) (b .shared-slice-known2 .given))
+    (m .least .result) (omega arith) (m .least .ensures) (c .skip-to-sync .ensures)
 
 sub-e : tie.Need-sub-e
 sub-e c = search needs
@@ -59,23 +84,29 @@ part-skip-to-sync-start-2 : tie.Need-part-skip-to-sync-start-2
 part-skip-to-sync-start-2 c = search needs
 
 part-skip-to-sync-end-2 : tie.Need-part-skip-to-sync-end-2
-part-skip-to-sync-end-2 c = omega (arith, need-least (c .before .before .before .args .syntax))
+part-skip-to-sync-end-2 c = omega (arith, need-least (start (c .before) .args .syntax))
 
 skip-to-sync-requires-2 : tie.Need-skip-to-sync-requires-2
 skip-to-sync-requires-2 c κs = search needs
 
 add-result-2 : tie.Need-add-result-2
 add-result-2 c =
-    let s = c .before .before .before .before .before .args in
+    let s = start (high c) .args in
     let a = s .at + 1 - s .carried in
     let m = s .carried + length (now (s .payload)) - s .need + 2 - s .carried - a in
-    omega (arith, place-within (s .syntax) m a (c .skip-to-sync2 .result) (now (s .payload)) (c .skip-to-sync2 .ensures))
+    omega (
+      arith,
+      place-within (s .syntax) m a (c .skip-to-sync2 .result) (now (s .payload)) (c .skip-to-sync2 .ensures),
+    )
 
 returns-2 : tie.Need-returns-2
 returns-2 c =
-    let s = c .before .before .before .before .before in
-    unread-high (s .args .syntax) (s .args .carried) (now (s .args .pending)) (now (s .args .payload)) (s .pre .0) (s .args .at) (s .args .need) (c .skip-to-sync2 .result) (s .pre .1) (s .pre .2)
-    (known (now (s .args .pending)) (c .before .before .before .before .shared-slice-known .given)) (known (now (s .args .payload)) (c .before .before .before .shared-slice-known2 .given))
+    let b = high c in
+    let s = start b in
+    unread-high (s .args .syntax) (s .args .carried) (now (s .args .pending)) (now (s .args .payload)) (s .pre .0)
+    (s .args .at) (s .args .need) (c .skip-to-sync2 .result) (s .pre .1) (s .pre .2)
+    (known (now (s .args .pending)) (b .before .shared-slice-known .given))
+    (known (now (s .args .payload)) (b .shared-slice-known2 .given))
     (omega arith) (c .skip-to-sync2 .ensures)
 
 pub unread-run-spec : {M : Type 1} → statement M

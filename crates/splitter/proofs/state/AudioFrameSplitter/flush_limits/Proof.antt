@@ -30,7 +30,8 @@ returns-4 : tie.Need-returns-4
 unfolding flushRefusalOf flushTightOf
 returns-4 c =
     simp (
-      sym (c .before .before .before .before .before .bad-state .ensures) ∙ c .before .before .before .before .if1 .left,
+      sym (c .before .before .before .before .before .bad-state .ensures)
+          ∙ c .before .before .before .before .if1 .left,
       le-ltb _ _ (c .before .before .before .if2 .left),
       le-ltb _ _ (c .before .if3 .left),
       lt-ltb _ _ (c .if4 .taken),
@@ -40,7 +41,8 @@ returns-5 : tie.Need-returns-5
 unfolding flushRefusalOf flushTightOf
 returns-5 c =
     simp (
-      sym (c .before .before .before .before .before .bad-state .ensures) ∙ c .before .before .before .before .if1 .left,
+      sym (c .before .before .before .before .before .bad-state .ensures)
+          ∙ c .before .before .before .before .if1 .left,
       le-ltb _ _ (c .before .before .before .if2 .left),
       le-ltb _ _ (c .before .if3 .left),
       le-ltb _ _ (c .if4 .left),

@@ -19,7 +19,8 @@ returns : tie.Need-returns
 unfolding newOf
 returns c =
     let s = c .before .before .before in
-    sym (ap (λ (x : CodedSyntax). newIn x (s .args .code)) (sym (c .before .before .from-code .ensures) ∙ c .enum-told2 .given .1))
+    sym (ap (λ (x : CodedSyntax). newIn x (s .args .code))
+    (sym (c .before .before .from-code .ensures) ∙ c .enum-told2 .given .1))
 
 forgotten-requires : tie.Need-forgotten-requires
 forgotten-requires c κs = search needs
@@ -29,7 +30,8 @@ unfolding newOf
 returns-2 c =
     let s = c .before .before .before .before in
     rw (c .forgotten .ensures)
-    (sym (ap (λ (x : CodedSyntax). newIn x (s .args .code)) (sym (c .before .before .before .from-code .ensures) ∙ c .before .enum-told .given .1)))
+    (sym (ap (λ (x : CodedSyntax). newIn x (s .args .code))
+    (sym (c .before .before .before .from-code .ensures) ∙ c .before .enum-told .given .1)))
 
 pub new-spec : {M : Type 1} → statement M
 new-spec =

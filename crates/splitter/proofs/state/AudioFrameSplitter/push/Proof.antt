@@ -1,11 +1,31 @@
 -- A push that has entered is the one that is taken, and one that has not leaves everything as it was.
-use mathlib.Core.Path.{refl}
+use mathlib.Core.Path.{sym, _∙_}
 use denote.Ref.{now}
 use Rattle.splitter.specs.Push.{Event, event}
 use Rattle.splitter.proofs.Entering.{entered-fine, push-open, push-closed}
 use borrow.Author.Needs.{needs}
 use Rattle.splitter.proofs.state.AudioFrameSplitter.push.Statement.{statement}
 use Rattle.splitter.proofs.state.AudioFrameSplitter.push.Tie as tie
+
+-- ---- the states by name
+
+abbrev start : tie.After-enter → tie.Start
+start c = c .before .before .before .before
+
+abbrev entered : tie.After-syntax → tie.After-enter
+entered c = c .before .before
+
+abbrev opened : tie.After-push-taken-arg3 → tie.After-syntax
+opened c = c .before .before .before .before
+
+abbrev taken : tie.After-rows → tie.After-push-taken
+taken c = c .before .before .before .before .before
+
+abbrev given : tie.Start → Event
+given s =
+    event (now (s .args .payload)) (s .args .pts) (now (s .args .pending)) (now (s .args .out)) (now (s .args .rows))
+
+-- ---- the needs
 
 enter-requires : tie.Need-enter-requires
 enter-requires c κs = search needs
@@ -15,11 +35,10 @@ enum-known-syntax c = search needs
 
 push-taken-requires : tie.Need-push-taken-requires
 push-taken-requires c κs =
-    let k = c .before .before .before .before in
-    let h = k .before .before .enter in
-    let s = k .before .before .before .before .before .before .args in
-    let e : Event = event (now (s .payload)) (s .pts) (now (s .pending)) (now (s .out)) (now (s .rows)) in
-    entered-fine (s .self) e (h .result) (h .ensures) (k .syntax .given .0 .0) (k .syntax .given .1)
+    let k = opened c in
+    let h = entered k in
+    entered-fine (start h .args .self) (given (start h)) (h .enter .result) (h .enter .ensures)
+    (k .syntax .given .0 .0) (k .syntax .given .1)
 
 enum-known-answer : tie.Need-enum-known-answer
 enum-known-answer c = search needs
@@ -35,19 +54,18 @@ same-length-3 c = search needs
 
 returns : tie.Need-returns
 returns c =
-    let k = c .before .before .before .before .before .before .before .before .before .before in
-    let h = k .before .before .enter in
-    let s = k .before .before .before .before .before .before .args in
-    let e : Event = event (now (s .payload)) (s .pts) (now (s .pending)) (now (s .out)) (now (s .rows)) in
-    rw (push-open (s .self) e (h .result) (h .ensures) (k .syntax .given .0 .0) (k .syntax .given .1)) (c .before .before .before .before .before .push-taken .ensures)
+    let d = taken c in
+    let k = opened (d .before) in
+    let h = entered k in
+    d .push-taken .ensures ∙ sym (push-open (start h .args .self) (given (start h)) (h .enter .result)
+    (h .enter .ensures) (k .syntax .given .0 .0) (k .syntax .given .1))
 
 returns-2 : tie.Need-returns-2
 returns-2 c =
     let k = c .before in
-    let h = k .before .before .enter in
-    let s = k .before .before .before .before .before .before .args in
-    let e : Event = event (now (s .payload)) (s .pts) (now (s .pending)) (now (s .out)) (now (s .rows)) in
-    rw (push-closed (s .self) e (h .result) (h .ensures) (k .answer .given .0 .0) (k .answer .given .1)) (refl, (refl, (refl, (refl, refl))))
+    let h = k .before .before in
+    sym (push-closed (start h .args .self) (given (start h)) (h .enter .result) (h .enter .ensures)
+    (k .answer .given .0 .0) (k .answer .given .1))
 
 pub push-spec : {M : Type 1} → statement M
 push-spec =

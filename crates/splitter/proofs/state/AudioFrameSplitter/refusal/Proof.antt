@@ -19,7 +19,9 @@ returns : tie.Need-returns
 unfolding pushNumber
 returns c =
     let s = c .before .before .before .args in
-    sym (ap (λ (x : CodedSyntax). numberBy x (refusalOf (s .self) (s .payload) (s .pts) (s .pending) (s .out) (s .rows))) (sym (c .before .before .from-code .ensures) ∙ c .enum-told2 .given .1))
+    sym (ap (λ (x : CodedSyntax). numberBy x
+    (refusalOf (s .self) (s .payload) (s .pts) (s .pending) (s .out) (s .rows)))
+    (sym (c .before .before .from-code .ensures) ∙ c .enum-told2 .given .1))
 
 limits-requires : tie.Need-limits-requires
 limits-requires c κs = search needs
@@ -29,7 +31,9 @@ unfolding pushNumber
 returns-2 c =
     let s = c .before .before .before .before .args in
     c .limits .ensures
-    ∙ sym (ap (λ (x : CodedSyntax). numberBy x (refusalOf (s .self) (s .payload) (s .pts) (s .pending) (s .out) (s .rows))) (sym (c .before .before .before .from-code .ensures) ∙ c .before .enum-told .given .1))
+    ∙ sym (ap (λ (x : CodedSyntax). numberBy x
+    (refusalOf (s .self) (s .payload) (s .pts) (s .pending) (s .out) (s .rows)))
+    (sym (c .before .before .before .from-code .ensures) ∙ c .before .enum-told .given .1))
 
 pub refusal-spec : {M : Type 1} → statement M
 refusal-spec = tie.close (tie.spec from-code-requires enum-told enum-told-2 returns limits-requires returns-2)

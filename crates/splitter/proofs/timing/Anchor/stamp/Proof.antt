@@ -1,4 +1,5 @@
--- With the anchor within its bounds neither the product nor the sum leaves 64 bits, and so the code works out what the rule says.
+-- With the anchor within its bounds neither the product nor the sum leaves 64 bits, and so the code works out what the
+-- rule says.
 use mathlib.Core.Path.{_∙_}
 use native.Mathlib.Omega.{arith}
 use mir.Facts.{toZ-ofZ}
@@ -45,7 +46,10 @@ cast-result-2 c =
 add-result : tie.Need-add-result
 add-result c =
     let s = c .before .before .before .before .before in
-    rw (toZ-ofZ (pts-fits (s .pre .0)), toZ-ofZ (offset-fits (s .args .self) (s .args .geometry) (s .pre .0) (s .pre .1)))
+    rw (
+      toZ-ofZ (pts-fits (s .pre .0)),
+      toZ-ofZ (offset-fits (s .args .self) (s .args .geometry) (s .pre .0) (s .pre .1)),
+    )
     (sum-fits (s .args .self) (s .args .geometry) (s .pre .0) (s .pre .1))
 
 returns-2 : tie.Need-returns-2

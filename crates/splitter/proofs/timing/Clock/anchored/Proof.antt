@@ -1,6 +1,6 @@
 -- The code writes down the record that the definition names.
 use mathlib.Core.Path.{refl}
-use Rattle.splitter.specs.Steps.{anchoredTo}
+use Rattle.splitter.specs.Clocks.{anchoredTo}
 use Rattle.splitter.proofs.timing.Clock.anchored.Statement.{statement}
 use Rattle.splitter.proofs.timing.Clock.anchored.Tie as tie
 

@@ -1,4 +1,5 @@
--- Without an anchor nothing changes; with one, the stamp is worked out and the anchor counts one, which the bound on the count leaves room for.
+-- Without an anchor nothing changes; with one, the stamp is worked out and the anchor counts one, which the bound on
+-- the count leaves room for.
 use mathlib.Core.Path.{_≡_}
 use native.Mathlib.Omega.{arith}
 use mir.Val.{toZ, ofZ}
@@ -7,6 +8,19 @@ use Rattle.splitter.proofs.Clocks.{interpolated-free, interpolated-to}
 use borrow.Author.Needs.{needs}
 use Rattle.splitter.proofs.timing.Clock.interpolate.Statement.{statement}
 use Rattle.splitter.proofs.timing.Clock.interpolate.Tie as tie
+
+-- ---- the states by name
+
+abbrev start : tie.After-held → tie.Start
+start c = c .before .before .before
+
+abbrev held : tie.After-stamp → tie.After-held
+held c = c .before .before
+
+abbrev stamped : tie.After-anchored → tie.After-stamp
+stamped c = c .before .before .before
+
+-- ---- the needs
 
 enum-known-held : tie.Need-enum-known-held
 enum-known-held c = search needs
@@ -21,26 +35,28 @@ returns c =
 
 stamp-requires : tie.Need-stamp-requires
 stamp-requires c κs =
-    let s = c .before .before .before .before in
-    (s .pre .0 .anchored (c .before .held .given .0 .0) (c .before .held .given .1), s .pre .1)
+    let h = c .before in
+    let s = start h in
+    (s .pre .0 .held .steady (h .held .given .0 .0) (h .held .given .1), s .pre .1)
 
 add-t9 : tie.Need-add-t9
 add-t9 c =
-    let s = c .before .before .before .before .before .before in
-    let h = c .before .before .before .held .given in
-    omega (arith, s .pre .0 .anchored (h .0 .0) (h .1) .since)
+    let k = held (c .before) in
+    let h = k .held .given in
+    omega (arith, start k .pre .0 .held .steady (h .0 .0) (h .1) .since)
 
 anchored-requires : tie.Need-anchored-requires
 anchored-requires c κs = search needs
 
 returns-2 : tie.Need-returns-2
 returns-2 c =
-    let s = c .before .before .before .before .before .before .before .before in
-    let h = c .before .before .before .before .before .held .given in
-    let t = c .before .before .before .stamp in
+    let k = held (stamped c) in
+    let s = start k in
+    let h = k .held .given in
+    let t = stamped c .stamp in
     let x : toZ w64 (ofZ w64 (t .result)) ≡ t .result = search needs in
     let y : toZ w64 (ofZ w64 (h .0 .0 .pts)) ≡ h .0 .0 .pts = search needs in
-    rw (x, t .ensures, c .anchored .ensures, y) (interpolated-to (s .args .self) (s .args .geometry) (h .0 .0) (h .1))
+    rw (c .anchored .ensures, x, t .ensures, y) (interpolated-to (s .args .self) (s .args .geometry) (h .0 .0) (h .1))
 
 pub interpolate-spec : {M : Type 1} → statement M
 interpolate-spec =

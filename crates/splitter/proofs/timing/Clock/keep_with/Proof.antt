@@ -1,5 +1,5 @@
 -- What began in pending bytes keeps its stamp; else the stamp that is taken becomes the pending one.
-use Rattle.splitter.specs.Steps.{takenStamp, keptWith}
+use Rattle.splitter.specs.Clocks.{takenStamp, keptWith}
 use borrow.Author.Needs.{needs}
 use Rattle.splitter.proofs.timing.Clock.keep_with.Statement.{statement}
 use Rattle.splitter.proofs.timing.Clock.keep_with.Tie as tie

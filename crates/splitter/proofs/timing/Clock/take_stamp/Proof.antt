@@ -2,7 +2,7 @@
 use mathlib.Core.Path.{_≡_}
 use mir.Val.{toZ, ofZ}
 use mir.Syntax.{w64}
-use Rattle.splitter.specs.Steps.{interpolated, takenStamp}
+use Rattle.splitter.specs.Clocks.{interpolated, takenStamp}
 use borrow.Author.Needs.{needs}
 use Rattle.splitter.proofs.timing.Clock.take_stamp.Statement.{statement}
 use Rattle.splitter.proofs.timing.Clock.take_stamp.Tie as tie

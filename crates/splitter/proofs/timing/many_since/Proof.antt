@@ -2,8 +2,8 @@
 use mathlib.Core.Path.{sym, ap}
 use Rattle.splitter.specs.Stamp.{manySince}
 use borrow.Author.Needs.{needs}
-use Rattle.splitter.proofs.state.many_since.Statement.{statement}
-use Rattle.splitter.proofs.state.many_since.Tie as tie
+use Rattle.splitter.proofs.timing.many_since.Statement.{statement}
+use Rattle.splitter.proofs.timing.many_since.Tie as tie
 
 enum-known-held : tie.Need-enum-known-held
 enum-known-held c = search needs

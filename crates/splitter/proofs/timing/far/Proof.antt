@@ -4,8 +4,8 @@ use mir.Val.{toZ, ofZ}
 use mir.Syntax.{w64}
 use borrow.Author.Needs.{needs}
 use Rattle.splitter.specs.Stamp.{far}
-use Rattle.splitter.proofs.state.far.Statement.{statement}
-use Rattle.splitter.proofs.state.far.Tie as tie
+use Rattle.splitter.proofs.timing.far.Statement.{statement}
+use Rattle.splitter.proofs.timing.far.Tie as tie
 
 returns : tie.Need-returns
 unfolding far

@@ -3,10 +3,11 @@ use mathlib.Core.Path.{_≡_, sym, _∙_, ap}
 use mir.Val.{toZ, ofZ}
 use mir.Syntax.{w64}
 use borrow.Author.Tests.{lt-ltb, le-ltb}
+use Rattle.splitter.specs.Bounds.{samplesMost}
 use Rattle.splitter.specs.Stamp.{far, badAnchor}
 use borrow.Author.Needs.{needs}
-use Rattle.splitter.proofs.state.bad_anchor.Statement.{statement}
-use Rattle.splitter.proofs.state.bad_anchor.Tie as tie
+use Rattle.splitter.proofs.timing.bad_anchor.Statement.{statement}
+use Rattle.splitter.proofs.timing.bad_anchor.Tie as tie
 
 enum-known-held : tie.Need-enum-known-held
 enum-known-held c = search needs
@@ -32,7 +33,8 @@ returns-3 c =
     let e : toZ w64 (ofZ w64 (h .0 .0 .pts)) ≡ h .0 .0 .pts = search needs in
     c .far .ensures
     ∙ ap far e
-    ∙ sym (ap badAnchor (h .1) ∙ simp (le-ltb 4096 (h .0 .0 .«samples_per_frame») (c .before .before .if1 .left)))
+    ∙ sym (ap badAnchor (h .1) ∙ simp
+    (le-ltb samplesMost (h .0 .0 .«samples_per_frame») (c .before .before .if1 .left)))
 
 pub bad-anchor-spec : {M : Type 1} → statement M
 bad-anchor-spec =

@@ -4,8 +4,8 @@ use mir.Val.{toZ, ofZ}
 use mir.Syntax.{w64}
 use Rattle.splitter.specs.Stamp.{far, farPts}
 use borrow.Author.Needs.{needs}
-use Rattle.splitter.proofs.state.far_pts.Statement.{statement}
-use Rattle.splitter.proofs.state.far_pts.Tie as tie
+use Rattle.splitter.proofs.timing.far_pts.Statement.{statement}
+use Rattle.splitter.proofs.timing.far_pts.Tie as tie
 
 enum-known-pts : tie.Need-enum-known-pts
 enum-known-pts c = search needs
