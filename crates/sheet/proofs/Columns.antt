@@ -1,17 +1,17 @@
 -- Lines column by column: how long they are, what they are made of, and what they look at. Assumes nothing.
-use mathlib.Core.Path.{_≡_, sym, _∙_, ap}
+use mathlib.Core.Path.{_≡_, _∙_, ap}
 use mathlib.Core.List.{List, [], _∷_, _++_, append-assoc}
 use Prim.Native.Nat.{ℕ, zero, suc, _+_, _-_, _%_, _^_, _≤_, _<_}
 use native.Mathlib.Omega.{arith}
 use lib.IntN.{ℤ, pos, negsuc}
 use lib.ListN.{length, take, getD, replicate, length-append, length-replicate}
 use lib.Seq.{getD-take}
-use lib.Signed.{mag}
-use Rattle.sheet.specs.Layout.{space, minus, lineFeed, decimal, signed, cellText, right, lowDigits, rateCell, stampCell, line, endLine}
+use Rattle.numbers.specs.Decimal.{decimal}
+use Rattle.sheet.specs.Layout.{space, minus, lineFeed, signed, cellText, right, lowDigits, rateCell, stampCell, line, endLine}
 use Rattle.sheet.specs.Step.{lineLength, endMost}
 use Rattle.sheet.specs.declared.column.Cell.the-variants.{Number}
-use Rattle.sheet.specs.Parts.{col, frontOf, backOf, Below, RowFits}
-use Rattle.sheet.proofs.Digits.{decimal-most}
+use Rattle.sheet.specs.Parts.{col, Below, Held, RowFits}
+use Rattle.numbers.proofs.Digits.{decimal-most}
 
 -- ---- one column
 
@@ -47,11 +47,11 @@ rate-fits (pos (suc n)) b = number-fits 7 (pos (suc n)) (omega arith) b
 rate-fits (negsuc n) b = absurd b
 
 -- 2 ^ 63 has 19 digits, and may have a sign
-signed-most : (z : ℤ) → mag z < 2 ^ 63 → length (signed z) ≤ 20
+signed-most : (z : ℤ) → Held z → length (signed z) ≤ 20
 signed-most (pos n) h = decimal-most 20 n (omega arith) (omega arith)
 signed-most (negsuc n) h = omega (arith, decimal-most 19 (suc n) (omega arith) (omega arith))
 
-pub stamp-fits : (p z : ℤ) → mag z < 2 ^ 63 → length (right 20 (cellText (stampCell p z))) ≡ 20
+pub stamp-fits : (p z : ℤ) → Held z → length (right 20 (cellText (stampCell p z))) ≡ 20
 stamp-fits (pos zero) z h = right-length 20 (minus ∷ []) (omega arith)
 stamp-fits (pos (suc zero)) z h = right-length 20 (signed z) (signed-most z h)
 stamp-fits (pos (suc (suc n))) z h = right-length 20 (minus ∷ []) (omega arith)
@@ -73,7 +73,7 @@ unfolding line
 line-columns n row = simp append-assoc
 
 -- the line of a row that fits has always the same length
-pub line-length : (n : ℕ) (row : List ℤ) → RowFits row → mag (getD row 7 (pos 0)) < 2 ^ 63 → length (line n row) ≡ lineLength
+pub line-length : (n : ℕ) (row : List ℤ) → RowFits row → Held (getD row 7 (pos 0)) → length (line n row) ≡ lineLength
 line-length n row f h =
     ap length (line-columns n row)
     ∙ simp
@@ -116,7 +116,8 @@ line-low n m row e = rw e
 -- ---- the last line
 
 -- column by column
-pub end-columns : (d p : ℕ) → endLine d p ≡ 69 ∷ space ∷ (col 20 (Number (pos d)) space ++ col 5 (Number (pos p)) lineFeed)
+pub end-columns : (d p : ℕ)
+    → endLine d p ≡ 69 ∷ space ∷ (col 20 (Number (pos d)) space ++ col 5 (Number (pos p)) lineFeed)
 unfolding endLine
 end-columns d p = simp append-assoc
 
@@ -136,18 +137,11 @@ end-most d p h i =
 pub end-length : (d p : ℕ) → d < 2 ^ 64 → p < 10 ^ 5 → length (endLine d p) ≡ 29
 end-length d p h i =
     ap length (end-columns d p)
-    ∙ simp length-append (omega (arith, number-fits 20 (pos d) (omega arith) (omega arith), number-fits 5 (pos p) (omega arith) i))
-
--- ---- the parts of a line that the code writes one after the other
-
-pub line-parts : (n : ℕ) (row : List ℤ) → line n row ≡ frontOf n row ++ backOf row
-unfolding frontOf backOf
-line-parts n row =
-    line-columns n row
-    ∙ sym (regroup (col 8 (Number (pos (lowDigits n))) space) (col 5 (Number (getD row 0 (pos 0))) space) (col 2 (Number (getD row 1 (pos 0))) space) (col 5 (Number (getD row 2 (pos 0))) space) (backOf row))
-  where
-    regroup : (a b c d l : List ℕ) → (a ++ (b ++ (c ++ d))) ++ l ≡ a ++ (b ++ (c ++ (d ++ l)))
-    regroup a b c d l = append-assoc a (b ++ (c ++ d)) l ∙ ap (λ (k : List ℕ). a ++ k) (append-assoc b (c ++ d) l ∙ ap (λ (k : List ℕ). b ++ k) (append-assoc c d l))
+    ∙ simp length-append (omega (
+      arith,
+      number-fits 20 (pos d) (omega arith) (omega arith),
+      number-fits 5 (pos p) (omega arith) i,
+    ))
 
 -- a row that fits, lent as a part of the rows
 pub fits-take : (k : ℕ) (row : List ℤ) → k ≡ 8 → RowFits row → RowFits (take k row)

@@ -1,14 +1,13 @@
 -- The laws by concept.
 
--- numbers as digits, and a text that is written
-pub mod Digits
+-- a text that is written, and numbers in it
 pub mod Writing
 pub mod Spelling
 pub mod Filling
 -- lines by their columns, and rows that fit them
 pub mod Cells
 pub mod Columns
-pub mod Halves
+pub mod Putting
 -- the lines of a push; the lines that are written one after the other
 pub mod Lines
 pub mod Listing

@@ -1,51 +1,23 @@
--- Lines are read back in one way only: the words of a line are the texts of its cells, and a cell is known by its text. Assumes nothing.
+-- Lines are read back in one way only: the words of a line are the texts of its cells, and a cell is known by its text.
+-- Assumes nothing.
 use mathlib.Core.Path.{_≡_, refl, sym, _∙_, ap}
-use mathlib.Core.Bool.{Bool, true, false, _||_}
+use mathlib.Core.Bool.{true, false}
 use mathlib.Core.List.{List, [], _∷_, _++_, map, append-nil, append-assoc}
 use Prim.Native.Nat.{ℕ, zero, suc, _-_, _≤_}
 use native.Mathlib.Omega.{arith}
-use lib.Dec.{eqb}
 use lib.IntN.{ℤ, pos, negsuc}
 use lib.ListN.{length, replicate}
 use borrow.Author.Tests.{ne-eqb}
-use Rattle.sheet.specs.Layout.{space, minus, lineFeed, decimal, cellText, right, cells, line, endLine}
+use Rattle.numbers.specs.Decimal.{decimal}
+use Rattle.sheet.specs.Layout.{space, minus, lineFeed, cellText, right, cells, line, endLine}
+use Rattle.sheet.specs.Reading.{gap, whole, split, words}
 use Rattle.sheet.specs.declared.column.Cell.{Cell}
 use Rattle.sheet.specs.declared.column.Cell.the-variants.{Number, Absent}
-use Rattle.sheet.proofs.Digits.{All, IsDigit, decimal-least, decimal-digits, decimal-one}
+use Rattle.numbers.proofs.Digits.{All, IsDigit, decimal-least, decimal-digits, decimal-one}
 use Rattle.sheet.specs.Parts.{col}
 use Rattle.sheet.proofs.Columns.{line-columns, end-columns}
 
 -- ---- words
-
--- a character between words
-abbrev pub gap : ℕ → Bool
-gap c = eqb c space || eqb c lineFeed
-
--- a text's front up to the first gap, where it may have no character, and the words behind that
-pub record Split : Type 0 where
-  pub front : List ℕ
-  pub behind : List (List ℕ)
-
--- two gaps have no word between them
-abbrev pub listed : List ℕ → List (List ℕ) → List (List ℕ)
-listed [] ws = ws
-listed (c ∷ w) ws = (c ∷ w) ∷ ws
-
-abbrev pub whole : Split → List (List ℕ)
-whole s = listed (s .front) (s .behind)
-
--- a character, and what follows it
-abbrev pub led : Bool → ℕ → Split → Split
-led true c s = record { front = []; behind = whole s }
-led false c s = record { front = c ∷ s .front; behind = s .behind }
-
-abbrev pub split : List ℕ → Split
-split [] = record { front = []; behind = [] }
-split (c ∷ cs) = led (gap c) c (split cs)
-
--- the maximal runs of characters other than space and line feed
-unfoldable pub words : List ℕ → List (List ℕ)
-words cs = whole (split cs)
 
 -- a character of a word
 abbrev pub Mark : ℕ → Type 0
@@ -60,13 +32,15 @@ pub words-spaces : (k : ℕ) (cs : List ℕ) → words (replicate k space ++ cs)
 words-spaces zero cs = refl
 words-spaces (suc k) cs = words-gap space (replicate k space ++ cs) refl ∙ words-spaces k cs
 
-split-word : (w : List ℕ) (s : ℕ) (cs : List ℕ) → All Mark w → gap s ≡ true → split (w ++ (s ∷ cs)) ≡ record { front = w; behind = words cs }
+split-word : (w : List ℕ) (s : ℕ) (cs : List ℕ) → All Mark w → gap s ≡ true
+    → split (w ++ (s ∷ cs)) ≡ record { front = w; behind = words cs }
 unfolding words
 split-word [] s cs m h = rw h
 split-word (c ∷ w) s cs m h = rw (m .0, split-word w s cs (m .1) h)
 
 -- a word and what stands behind it
-pub words-word : (w : List ℕ) (s : ℕ) (cs : List ℕ) → 1 ≤ length w → All Mark w → gap s ≡ true → words (w ++ (s ∷ cs)) ≡ w ∷ words cs
+pub words-word : (w : List ℕ) (s : ℕ) (cs : List ℕ) → 1 ≤ length w → All Mark w → gap s ≡ true
+    → words (w ++ (s ∷ cs)) ≡ w ∷ words cs
 unfolding words
 words-word [] s cs l m h = absurd (omega arith)
 words-word (c ∷ w) s cs l m h = ap whole (split-word (c ∷ w) s cs m h)
@@ -92,10 +66,12 @@ text-least (Number (negsuc n)) = omega arith
 text-least Absent = omega arith
 
 -- a column has one word, the text of its cell
-pub words-col : (w : ℕ) (c : Cell) (s : ℕ) (cs : List ℕ) → gap s ≡ true → words (col w c s ++ cs) ≡ cellText c ∷ words cs
+pub words-col : (w : ℕ) (c : Cell) (s : ℕ) (cs : List ℕ) → gap s ≡ true
+    → words (col w c s ++ cs) ≡ cellText c ∷ words cs
 unfolding right
 words-col w c s cs h =
-    simp append-assoc (words-spaces (w - length (cellText c)) (cellText c ++ (s ∷ cs)) ∙ words-word (cellText c) s cs (text-least c) (text-marks c) h)
+    simp append-assoc (words-spaces (w - length (cellText c)) (cellText c ++ (s ∷ cs)) ∙ words-word (cellText c) s cs
+    (text-least c) (text-marks c) h)
 
 last-col : (w : ℕ) (c : Cell) → words (col w c lineFeed) ≡ cellText c ∷ []
 unfolding words
@@ -109,7 +85,8 @@ line-words n row = rw (line-columns n row) (simp (words-col, last-col))
 pub end-words : (d p : ℕ) → words (endLine d p) ≡ (69 ∷ []) ∷ decimal d ∷ decimal p ∷ []
 end-words d p =
     rw (end-columns d p)
-    (words-word (69 ∷ []) space (col 20 (Number (pos d)) space ++ col 5 (Number (pos p)) lineFeed) (omega arith) (refl, tt) refl
+    (words-word (69 ∷ []) space (col 20 (Number (pos d)) space ++ col 5 (Number (pos p)) lineFeed) (omega arith)
+    (refl, tt) refl
     ∙ simp (words-col, last-col))
 
 -- ---- a cell is known by its text
@@ -128,7 +105,8 @@ text-one (Number (pos n)) (Number (pos m)) e = ap (λ (k : ℕ). Number (pos k))
 text-one (Number (pos n)) (Number (negsuc m)) e = absurd (no-minus n (decimal (suc m)) e)
 text-one (Number (pos n)) Absent e = absurd (no-minus n [] e)
 text-one (Number (negsuc n)) (Number (pos m)) e = absurd (no-minus m (decimal (suc n)) (sym e))
-text-one (Number (negsuc n)) (Number (negsuc m)) e = ap (λ (k : ℕ). Number (negsuc k)) (omega (arith, decimal-one (suc n) (suc m) (cc)))
+text-one (Number (negsuc n)) (Number (negsuc m)) e =
+    ap (λ (k : ℕ). Number (negsuc k)) (omega (arith, decimal-one (suc n) (suc m) (cc)))
 text-one (Number (negsuc n)) Absent e = absurd (no-lone (suc n) e)
 text-one Absent (Number (pos m)) e = absurd (no-minus m [] (sym e))
 text-one Absent (Number (negsuc m)) e = absurd (no-lone (suc m) (sym e))
@@ -149,7 +127,8 @@ line-one n m r s e = texts-one (cells n r) (cells m s) (sym (line-words n r) ∙
 -- the last line says one count of bytes discarded and one of bytes pending
 pub end-one : (d p e q : ℕ) → endLine d p ≡ endLine e q → (d ≡ e) × (p ≡ q)
 end-one d p e q h =
-    let t : (69 ∷ []) ∷ decimal d ∷ decimal p ∷ [] ≡ (69 ∷ []) ∷ decimal e ∷ decimal q ∷ [] = sym (end-words d p) ∙ ap words h ∙ end-words e q in
+    let t : (69 ∷ []) ∷ decimal d ∷ decimal p ∷ [] ≡ (69 ∷ []) ∷ decimal e ∷ decimal q ∷ [] = sym (end-words d p)
+    ∙ ap words h ∙ end-words e q in
     (decimal-one d e (cc), decimal-one p q (cc))
 
 -- no frame's line is a last line

@@ -1,5 +1,5 @@
--- The steps over a stream's payloads give its sheet: a push gives the same with any buffers that have room, a step gives the next lines of the
--- sheet, and so does a run. And the payloads of a stream. Assumes nothing.
+-- The steps over a stream's payloads give its sheet: a push gives the same with any buffers that have room, a step
+-- gives the next lines of the sheet, and so does a run. And the payloads of a stream. Assumes nothing.
 use mathlib.Core.Path.{_≡_, refl, sym, _∙_, ap, subst}
 use mathlib.Core.Bool.{Bool, true, false, _||_}
 use mathlib.Core.List.{List, [], _∷_, _++_, map}
@@ -15,11 +15,12 @@ use Rattle.heads.specs.Syntax.{headOf, needOf, syntaxOf}
 use Rattle.heads.specs.declared.syntax.AudioSyntax.{AudioSyntax}
 use Rattle.heads.specs.declared.syntax.CodedSyntax.{CodedSyntax}
 use Rattle.heads.specs.declared.syntax.CodedSyntax.the-variants.{Known, Refused}
+use Rattle.splitter.specs.Bounds.{payloadMost, frameLeast, rowWidth}
 use Rattle.splitter.specs.Answer.{Answer, refused, done}
 use Rattle.splitter.specs.Cut.{Cut, remainder, walk}
 use Rattle.splitter.specs.Demand.{join}
-use Rattle.splitter.specs.Stamp.{Sheet, farPts, stampCuts}
-use Rattle.splitter.specs.Push.{Event, Outcome, event, firstOf, rowWidth, badState, badCount, tightOf, refusalOf, refusal, rowsOf, stay, finish, clockOf, cutsBy, admits, pushTaken, pushBy, pushIn, push, new}
+use Rattle.splitter.specs.Stamp.{Yield, farPts, stampCuts}
+use Rattle.splitter.specs.Push.{Event, Outcome, event, firstOf, badState, badCount, tightOf, refusalOf, refusal, rowsOf, stay, finish, clockOf, cutsBy, admits, pushTaken, pushBy, pushIn, push, new}
 use Rattle.splitter.specs.declared.state.AudioFrameSplitter.{AudioFrameSplitter}
 use Rattle.splitter.specs.declared.timing.Pts.{Pts}
 use Rattle.splitter.proofs.Account.{rows-size}
@@ -27,7 +28,7 @@ use Rattle.splitter.proofs.Answers.{clash, rows-said}
 use Rattle.splitter.proofs.Clocks.{state-few}
 use Rattle.splitter.proofs.Laws.{push-cases, push-pend-length}
 use Rattle.sheet.specs.Layout.{lowDigits}
-use Rattle.sheet.specs.Run.{Call, Roomy, AllRoomy, stepOf, runOn, runSteps}
+use Rattle.sheet.specs.Run.{Lending, Roomy, AllRoomy, stepOf, runOn, runSteps}
 use Rattle.sheet.specs.Sheet.{Standing, payloadSize, payloadsBy, payloadsOf, timeOf, linesOf, pendSize, outSize, rowsSize, pushed, endOf, goOn, sheetFrom, sheetOf}
 use Rattle.sheet.specs.Step.{Wrote, written, Step, Lent, lent, newSheet, sheetAfter, stepBy, pushOf, tightText, textSize, step}
 use Rattle.sheet.specs.declared.sheet.CutSheet.{CutSheet}
@@ -44,13 +45,19 @@ or-false true = refl
 or-false false = refl
 
 -- number 12 comes for the pending buffer alone
-tight-pend : (m p b o r : ℕ) → m ≤ pendSize → p ≤ payloadSize → outSize ≤ o → rowsSize ≤ r → tightOf m p b o r ≡ ltb b pendSize
+tight-pend : (m p b o r : ℕ) → m ≤ pendSize → p ≤ payloadSize → outSize ≤ o → rowsSize ≤ r
+    → tightOf m p b o r ≡ ltb b pendSize
 unfolding tightOf
-tight-pend m p b o r hm hp ho hr = rw (le-ltb o (m + p) (omega arith), le-ltb r (rowWidth * ((m + p) / 7)) (omega arith)) (or-false (ltb b pendSize))
+tight-pend m p b o r hm hp ho hr = rw (
+  le-ltb o (m + p) (omega arith),
+  le-ltb r (rowWidth * ((m + p) / frameLeast)) (omega arith),
+) (or-false (ltb b pendSize))
 
 -- the number that turns a push down where the output and the rows have room
 abbrev plain : AudioFrameSplitter → ℕ → Pts → Bool → ℕ
-plain s p t short = firstOf (badState s) 8 (firstOf (ltb 65535 p) 9 (firstOf (farPts t) 10 (firstOf (badCount s) 11 (firstOf short 12 0))))
+plain s p t short =
+    firstOf (badState s) 8 (firstOf (ltb payloadMost p) 9
+    (firstOf (farPts t) 10 (firstOf (badCount s) 11 (firstOf short 12 0))))
 
 room-refusal : (s : AudioFrameSplitter) (p : ℕ) (t : Pts) (b o r : ℕ) → p ≤ payloadSize → outSize ≤ o → rowsSize ≤ r
     → refusalOf s p t b o r ≡ plain s p t (ltb b pendSize)
@@ -58,7 +65,7 @@ unfolding refusalOf
 room-refusal s p t b o r hp ho hr =
     first-same (badState s) 8 _ _
     (λ e.
-    ap (λ (x : Bool). firstOf (ltb 65535 p) 9 (firstOf (farPts t) 10 (firstOf (badCount s) 11 (firstOf x 12 0))))
+    ap (λ (x : Bool). firstOf (ltb payloadMost p) 9 (firstOf (farPts t) 10 (firstOf (badCount s) 11 (firstOf x 12 0))))
     (tight-pend (s .pending) p b o r (state-few s e) hp ho hr))
 
 -- the same answer, the same state, the same bytes pending, and the same rows so far as written
@@ -66,7 +73,8 @@ pub record Alike (o o′ : Outcome) : Type 0 where
   pub answer : o .answer ≡ o′ .answer
   pub state : o .state ≡ o′ .state
   pub pend : take (o .state .pending) (o .pend) ≡ take (o .state .pending) (o′ .pend)
-  pub rows : (t : Bool) (r b : ℕ) → o .answer ≡ done t r b → take (r * rowWidth) (o .rows) ≡ take (r * rowWidth) (o′ .rows)
+  pub rows : (t : Bool) (r b : ℕ) → o .answer ≡ done t r b
+      → take (r * rowWidth) (o .rows) ≡ take (r * rowWidth) (o′ .rows)
 
 -- buffers that have room: b, o, r and b′, o′, r′, where the bytes pending are the same
 module _ (s : AudioFrameSplitter) (p : List ℕ) (t : Pts) (b b′ o o′ : List ℕ) (r r′ : List ℤ)
@@ -75,21 +83,32 @@ module _ (s : AudioFrameSplitter) (p : List ℕ) (t : Pts) (b b′ o o′ : List
   refused-alike k = record { answer = refl; state = refl; pend = front; rows = λ u n m e. absurd (clash k u n m e) }
 
   idle-alike : Alike (stay (done false 0 0) s (event p t b o r)) (stay (done false 0 0) s (event p t b′ o′ r′))
-  idle-alike = record { answer = refl; state = refl; pend = front; rows = λ u n m e. rw (← rows-said false u 0 0 n m e) }
+  idle-alike = record {
+    answer = refl;
+    state = refl;
+    pend = front;
+    rows = λ u n m e. rw (← rows-said false u 0 0 n m e);
+  }
 
-  taken-alike : (cs : List Cut) (sh : Sheet) → Alike (finish s (event p t b o r) cs sh) (finish s (event p t b′ o′ r′) cs sh)
+  taken-alike : (cs : List Cut) (sh : Yield)
+      → Alike (finish s (event p t b o r) cs sh) (finish s (event p t b′ o′ r′) cs sh)
   taken-alike cs sh =
       record {
         answer = refl;
         state = refl;
         pend = take-append-seam (remainder cs) _ ∙ sym (take-append-seam (remainder cs) _);
         rows = λ u n m e.
-            let l : length (rowsOf (sh .frames)) ≡ n * rowWidth = omega (arith, rows-size (sh .frames), rows-said true u _ _ n m e) in
+            let l : length (rowsOf (sh .frames)) ≡ n * rowWidth = omega (
+              arith,
+              rows-size (sh .frames),
+              rows-said true u _ _ n m e,
+            ) in
             take-at (rowsOf (sh .frames)) _ (n * rowWidth) l ∙ sym (take-at (rowsOf (sh .frames)) _ (n * rowWidth) l);
       }
 
   -- any buffers that have room, and hold the same bytes pending, serve alike
-  pub push-alike : length p ≤ payloadSize → ltb (length b) pendSize ≡ ltb (length b′) pendSize → outSize ≤ length o → outSize ≤ length o′
+  pub push-alike : length p ≤ payloadSize → ltb (length b) pendSize ≡ ltb (length b′) pendSize → outSize ≤ length o
+      → outSize ≤ length o′
       → rowsSize ≤ length r → rowsSize ≤ length r′ → Alike (push s (event p t b o r)) (push s (event p t b′ o′ r′))
   unfolding push
   push-alike hp hb ho ho′ hr hr′ = coded (syntaxOf (s .syntax))
@@ -100,7 +119,8 @@ module _ (s : AudioFrameSplitter) (p : List ℕ) (t : Pts) (b b′ o o′ : List
           ∙ ap (plain s (length p) t) hb
           ∙ sym (room-refusal s (length p) t (length b′) (length o′) (length r′) hp ho′ hr′)
 
-      taken : (x : AudioSyntax) (a : Bool) → Alike (pushTaken a x s (event p t b o r)) (pushTaken a x s (event p t b′ o′ r′))
+      taken : (x : AudioSyntax) (a : Bool)
+          → Alike (pushTaken a x s (event p t b o r)) (pushTaken a x s (event p t b′ o′ r′))
       taken x true =
           subst
           (λ (j : List ℕ).
@@ -108,7 +128,8 @@ module _ (s : AudioFrameSplitter) (p : List ℕ) (t : Pts) (b b′ o o′ : List
           (finish s (event p t b′ o′ r′) (walk (needOf x) (headOf x) j 0)
           (stampCuts (s .pending) (clockOf s (event p t b′ o′ r′)) (walk (needOf x) (headOf x) j 0))))
           (ap (λ (l : List ℕ). l ++ p) front)
-          (taken-alike (cutsBy x s (event p t b o r)) (stampCuts (s .pending) (clockOf s (event p t b o r)) (cutsBy x s (event p t b o r))))
+          (taken-alike (cutsBy x s (event p t b o r))
+          (stampCuts (s .pending) (clockOf s (event p t b o r)) (cutsBy x s (event p t b o r))))
       taken x false = idle-alike
 
       by : (x : AudioSyntax) (k : ℕ) → Alike (pushBy k x s (event p t b o r)) (pushBy k x s (event p t b′ o′ r′))
@@ -118,28 +139,33 @@ module _ (s : AudioFrameSplitter) (p : List ℕ) (t : Pts) (b b′ o o′ : List
       coded : (c : CodedSyntax) → Alike (pushIn c s (event p t b o r)) (pushIn c s (event p t b′ o′ r′))
       coded (Refused g) = refused-alike 7
       coded (Known x) =
-          subst (λ (k : ℕ). Alike (pushBy (refusal s (event p t b o r)) x s (event p t b o r)) (pushBy k x s (event p t b′ o′ r′))) same
+          subst (λ (k : ℕ). Alike (pushBy (refusal s (event p t b o r)) x s (event p t b o r))
+          (pushBy k x s (event p t b′ o′ r′))) same
           (by x (refusal s (event p t b o r)))
 
 -- behind the bytes pending, the buffer holds what it held
 pend-parts : (s : AudioFrameSplitter) (e : Event)
-    → (push s e) .pend ≡ take ((push s e) .state .pending) ((push s e) .pend) ++ drop ((push s e) .state .pending) (e .pend)
+    → (push s e) .pend ≡ take ((push s e) .state .pending) ((push s e) .pend) ++ drop ((push s e) .state .pending)
+    (e .pend)
 pend-parts s e =
     push-cases s e (λ o. o .pend ≡ take (o .state .pending) (o .pend) ++ drop (o .state .pending) (e .pend))
     (λ k. sym (take-append-drop (s .pending) (e .pend)))
     (λ x known q a. sym (take-append-drop (s .pending) (e .pend)))
     (λ x known q a.
-    ap (λ (l : List ℕ). l ++ drop (length (remainder (cutsBy x s e))) (e .pend)) (sym (take-append-seam (remainder (cutsBy x s e)) _)))
+    ap (λ (l : List ℕ). l ++ drop (length (remainder (cutsBy x s e))) (e .pend))
+    (sym (take-append-seam (remainder (cutsBy x s e)) _)))
 
 -- of one pending buffer: the same answer, the same state, the same pending buffer, and the same rows so far as written
 pub record Same (o o′ : Outcome) : Type 0 where
   pub answer : o .answer ≡ o′ .answer
   pub state : o .state ≡ o′ .state
   pub pend : o .pend ≡ o′ .pend
-  pub rows : (t : Bool) (r b : ℕ) → o .answer ≡ done t r b → take (r * rowWidth) (o .rows) ≡ take (r * rowWidth) (o′ .rows)
+  pub rows : (t : Bool) (r b : ℕ) → o .answer ≡ done t r b
+      → take (r * rowWidth) (o .rows) ≡ take (r * rowWidth) (o′ .rows)
 
 -- any two outputs and any two rows that have room give the same
-pub push-same : (s : AudioFrameSplitter) (p : List ℕ) (t : Pts) (b o o′ : List ℕ) (r r′ : List ℤ) → length p ≤ payloadSize
+pub push-same : (s : AudioFrameSplitter) (p : List ℕ) (t : Pts) (b o o′ : List ℕ) (r r′ : List ℤ)
+    → length p ≤ payloadSize
     → outSize ≤ length o → outSize ≤ length o′ → rowsSize ≤ length r → rowsSize ≤ length r′
     → Same (push s (event p t b o r)) (push s (event p t b o′ r′))
 push-same s p t b o o′ r r′ hp ho ho′ hr hr′ =
@@ -149,7 +175,8 @@ push-same s p t b o o′ r r′ hp ho ho′ hr hr′ =
       pend =
           pend-parts s (event p t b o r)
           ∙ ap (λ (l : List ℕ). l ++ drop (push s (event p t b o r) .state .pending) b) (like .pend)
-          ∙ ap (λ (z : AudioFrameSplitter). take (z .pending) (push s (event p t b o′ r′) .pend) ++ drop (z .pending) b) (like .state)
+          ∙ ap (λ (z : AudioFrameSplitter). take (z .pending) (push s (event p t b o′ r′) .pend) ++ drop
+          (z .pending) b) (like .state)
           ∙ sym (pend-parts s (event p t b o′ r′));
       rows = like .rows;
     }
@@ -174,7 +201,8 @@ by-enough (suc k) zero (b ∷ l) h g = absurd (not-suc-le-zero g)
 by-enough (suc k) (suc m) [] h g = refl
 by-enough (suc k) (suc m) (b ∷ l) h g =
     ap (λ (ps : List (List ℕ)). take payloadSize (b ∷ l) ∷ ps)
-    (by-enough k m (drop payloadSize (b ∷ l)) (omega (arith, length-drop payloadSize (b ∷ l))) (omega (arith, length-drop payloadSize (b ∷ l))))
+    (by-enough k m (drop payloadSize (b ∷ l)) (omega (arith, length-drop payloadSize (b ∷ l)))
+    (omega (arith, length-drop payloadSize (b ∷ l))))
 
 pub payloads-none : payloadsOf [] ≡ []
 unfolding payloadsOf
@@ -190,27 +218,33 @@ payloads-next (b ∷ l) h =
     (omega (arith, length-drop payloadSize (b ∷ l))) (omega arith))
 
 -- what holds of the empty stream, and of a stream if of what follows its first payload, holds of every stream
-pub stream-induction : (P : List ℕ → Type 0) → P [] → ((l : List ℕ) → 0 < length l → P (drop payloadSize l) → P l) → (l : List ℕ) → P l
+pub stream-induction : (P : List ℕ → Type 0) → P [] → ((l : List ℕ) → 0 < length l → P (drop payloadSize l) → P l)
+    → (l : List ℕ) → P l
 stream-induction P z next l = go (length l) l (omega arith)
   where
     go : (k : ℕ) (l : List ℕ) → length l ≤ k → P l
     go zero [] h = z
     go zero (b ∷ l) h = absurd (not-suc-le-zero h)
     go (suc k) [] h = z
-    go (suc k) (b ∷ l) h = next (b ∷ l) (omega arith) (go k (drop payloadSize (b ∷ l)) (omega (arith, length-drop payloadSize (b ∷ l))))
+    go (suc k) (b ∷ l) h =
+        next (b ∷ l) (omega arith) (go k (drop payloadSize (b ∷ l)) (omega (arith, length-drop payloadSize (b ∷ l))))
 
 -- they are the stream's bytes, in order
 pub payloads-all : (l : List ℕ) → join (payloadsOf l) ≡ l
 payloads-all =
     stream-induction (λ l. join (payloadsOf l) ≡ l) (ap join payloads-none)
-    (λ l h ih. ap join (payloads-next l h) ∙ ap (λ (r : List ℕ). take payloadSize l ++ r) ih ∙ take-append-drop payloadSize l)
+    (λ l h ih. ap join (payloads-next l h) ∙ ap (λ (r : List ℕ). take payloadSize l ++ r) ih
+    ∙ take-append-drop payloadSize l)
 
 -- each has 1 to 4096 of them
 pub payloads-small : (l : List ℕ) → AllPayloads (payloadsOf l)
 payloads-small =
     stream-induction (λ l. AllPayloads (payloadsOf l)) (subst AllPayloads (sym payloads-none) tt)
     (λ l h ih.
-    subst AllPayloads (sym (payloads-next l h)) ((omega (arith, length-take payloadSize l), omega (arith, length-take payloadSize l)), ih))
+    subst AllPayloads (sym (payloads-next l h)) (
+      (omega (arith, length-take payloadSize l), omega (arith, length-take payloadSize l)),
+      ih,
+    ))
 
 -- 9000 bytes, for instance, are two payloads of 4096 bytes and one of 808
 pub payloads-instance : map length (payloadsOf (replicate 9000 0)) ≡ 4096 ∷ 4096 ∷ 808 ∷ []
@@ -251,7 +285,8 @@ pend-room : (s : AudioFrameSplitter) (e : Event) → pendSize ≤ length (e .pen
 pend-room s e h = omega (arith, push-pend-length s e)
 
 -- two outcomes that are alike, and what follows alike after them
-on-alike : (s : AudioFrameSplitter) (b b′ : List ℕ) (n n′ : ℕ) (g : Bool) (o o′ : Outcome) → Alike o o′ → lowDigits n ≡ lowDigits n′
+on-alike : (s : AudioFrameSplitter) (b b′ : List ℕ) (n n′ : ℕ) (g : Bool) (o o′ : Outcome) → Alike o o′
+    → lowDigits n ≡ lowDigits n′
     → (go : Standing → List ℕ)
     → ((r : ℕ) → go (standing (o .state) (o .pend) (n + r) true) ≡ go (standing (o .state) (o′ .pend) (n′ + r) true))
     → goOn (o .answer) (standing s b n g) o go ≡ goOn (o′ .answer) (standing s b′ n′ g) o′ go
@@ -268,7 +303,8 @@ on-alike s b b′ n n′ g o o′ like low go h =
 
 -- of the pending buffer the bytes pending count, and of the number of lines the low eight digits
 pub sheet-level : (ps : List (List ℕ)) → AllPayloads ps → (s : AudioFrameSplitter) (b b′ : List ℕ) (n n′ : ℕ) (g : Bool)
-    → take (s .pending) b ≡ take (s .pending) b′ → pendSize ≤ length b → pendSize ≤ length b′ → lowDigits n ≡ lowDigits n′
+    → take (s .pending) b ≡ take (s .pending) b′ → pendSize ≤ length b → pendSize ≤ length b′
+    → lowDigits n ≡ lowDigits n′
     → sheetFrom (standing s b n g) ps ≡ sheetFrom (standing s b′ n′ g) ps
 sheet-level [] small s b b′ n n′ g front l l′ low = refl
 sheet-level (p ∷ ps) small s b b′ n n′ g front l l′ low =
@@ -285,8 +321,10 @@ sheet-level (p ∷ ps) small s b b′ n n′ g front l l′ low =
 
     like : Alike o o′
     like =
-        push-alike s p (timeOf g) b b′ (replicate outSize 0) (replicate outSize 0) (replicate rowsSize (pos 0)) (replicate rowsSize (pos 0)) front
-        (small .0 .1) (le-ltb (length b) pendSize l ∙ sym (le-ltb (length b′) pendSize l′)) (full {A = ℕ} outSize 0) (full {A = ℕ} outSize 0)
+        push-alike s p (timeOf g) b b′ (replicate outSize 0) (replicate outSize 0) (replicate rowsSize (pos 0))
+        (replicate rowsSize (pos 0)) front
+        (small .0 .1) (le-ltb (length b) pendSize l ∙ sym (le-ltb (length b′) pendSize l′)) (full {A = ℕ} outSize 0)
+        (full {A = ℕ} outSize 0)
         (full rowsSize (pos 0)) (full rowsSize (pos 0))
 
 -- ---- one step
@@ -302,22 +340,27 @@ unfolding step
 step-open c p b small long = go ((pushOf c p b) .answer) refl
   where
     go : (a : Answer) → (pushOf c p b) .answer ≡ a
-        → stepBy a (tightText (length (b .text)) (c .splitter .pending + length p)) c b (pushOf c p b) ≡ stepBy a false c b (pushOf c p b)
+        → stepBy a (tightText (length (b .text)) (c .splitter .pending + length p)) c b
+        (pushOf c p b) ≡ stepBy a false c b (pushOf c p b)
     go (refused k) e = refl
     go (done t r n) e =
         ap (λ (x : Bool). stepBy (done t r n) x c b (pushOf c p b))
-        (payload-loose (c .splitter) (event p (timeOf (c .begun)) (b .pend) (b .out) (b .rows)) t r n e small (length (b .text)) long)
+        (payload-loose (c .splitter) (event p (timeOf (c .begun)) (b .pend) (b .out) (b .rows)) t r n e small
+        (length (b .text)) long)
 
-on-same : (c : CutSheet) (b : Lent) (ps : List (List ℕ)) → AllPayloads ps → (o o′ : Outcome) → Same o o′ → pendSize ≤ length (o .pend) → (a : Answer)
+on-same : (c : CutSheet) (b : Lent) (ps : List (List ℕ)) → AllPayloads ps → (o o′ : Outcome) → Same o o′
+    → pendSize ≤ length (o .pend) → (a : Answer)
     → o .answer ≡ a
     → runOn ((stepBy a false c b o) .answer) (stepBy a false c b o) (λ d z. restOf d z ps)
     ≡ goOn a (standing (c .splitter) (b .pend) (c .number) (c .begun)) o′ (λ e. sheetFrom e ps)
 on-same c b ps small o o′ same long (refused k) e = refl
 on-same c b ps small o o′ same long (done t r x) e =
     ap (λ (l : List ℕ). l ++ restOf (sheetAfter c (o .state) r) (o .pend) ps)
-    (take-append-seam (linesOf (c .number) r (o .rows)) _ ∙ lines-front (c .number) r (o .rows) (o′ .rows) (same .rows t r x e))
+    (take-append-seam (linesOf (c .number) r (o .rows)) _ ∙ lines-front (c .number) r (o .rows) (o′ .rows)
+    (same .rows t r x e))
     ∙ ap (λ (l : List ℕ). linesOf (c .number) r (o′ .rows) ++ l)
-    (sheet-level ps small (o .state) (o .pend) (o .pend) (lowDigits (c .number + r)) (c .number + r) true refl long long (low-low (c .number + r))
+    (sheet-level ps small (o .state) (o .pend) (o .pend) (lowDigits (c .number + r))
+    (c .number + r) true refl long long (low-low (c .number + r))
     ∙ ap (λ (z : AudioFrameSplitter). sheetFrom (standing z (o .pend) (c .number + r) true) ps) (same .state)
     ∙ ap (λ (z : List ℕ). sheetFrom (standing (o′ .state) z (c .number + r) true) ps) (same .pend))
 
@@ -331,15 +374,18 @@ step-pend-length c p b = go ((pushOf c p b) .answer) (tightText (length (b .text
     go (done t r n) true = refl
     go (done t r n) false = push-pend-length (c .splitter) (event p (timeOf (c .begun)) (b .pend) (b .out) (b .rows))
 
-module _ (c : CutSheet) (b : List ℕ) (k : Call) (ps : List (List ℕ)) (room : Roomy (length (k .out)) (length (k .rows)) (length (k .text)))
+module _ (c : CutSheet) (b : List ℕ) (k : Lending) (ps : List (List ℕ))
+    (room : Roomy (length (k .out)) (length (k .rows)) (length (k .text)))
     (small : AllPayloads (k .payload ∷ ps)) (long : pendSize ≤ length b) where
   -- a step gives the next lines of the sheet, or its last
   pub step-gives : runOn ((stepOf c b k) .answer) (stepOf c b k) (λ d z. restOf d z ps) ≡ restOf c b (k .payload ∷ ps)
   step-gives =
-      ap (λ (a : Step). runOn (a .answer) a (λ d z. restOf d z ps)) (step-open c (k .payload) given (small .0 .1) (room .text-room))
+      ap (λ (a : Step). runOn (a .answer) a (λ d z. restOf d z ps))
+      (step-open c (k .payload) given (small .0 .1) (room .text-room))
       ∙ on-same c given ps (small .1) (pushOf c (k .payload) given) whole same
       (pend-room (c .splitter) _ long) ((pushOf c (k .payload) given) .answer) refl
-      ∙ ap (λ (a : Answer). goOn a (standing (c .splitter) b (c .number) (c .begun)) whole (λ e. sheetFrom e ps)) (same .answer)
+      ∙ ap (λ (a : Answer). goOn a (standing (c .splitter) b (c .number) (c .begun)) whole (λ e. sheetFrom e ps))
+      (same .answer)
     where
       given : Lent
       given = lent b (k .out) (k .rows) (k .text)
@@ -349,15 +395,18 @@ module _ (c : CutSheet) (b : List ℕ) (k : Call) (ps : List (List ℕ)) (room :
 
       same : Same (pushOf c (k .payload) given) whole
       same =
-          push-same (c .splitter) (k .payload) (timeOf (c .begun)) b (k .out) (replicate outSize 0) (k .rows) (replicate rowsSize (pos 0))
+          push-same (c .splitter) (k .payload) (timeOf (c .begun)) b (k .out) (replicate outSize 0) (k .rows)
+          (replicate rowsSize (pos 0))
           (small .0 .1) (room .out-room) (full {A = ℕ} outSize 0) (room .rows-room) (full rowsSize (pos 0))
 
   -- the same by what it answers
   pub step-written : (n : ℕ) → (stepOf c b k) .answer ≡ written n
-      → restOf c b (k .payload ∷ ps) ≡ take n ((stepOf c b k) .text) ++ restOf ((stepOf c b k) .state) ((stepOf c b k) .pend) ps
+      → restOf c b (k .payload ∷ ps) ≡ take n ((stepOf c b k) .text) ++ restOf ((stepOf c b k) .state)
+      ((stepOf c b k) .pend) ps
   step-written n e = sym step-gives ∙ ap (λ (a : Wrote). runOn a (stepOf c b k) (λ d z. restOf d z ps)) e
 
-  pub step-refused : (n : ℕ) → (stepOf c b k) .answer ≡ Wrote.refused n → restOf c b (k .payload ∷ ps) ≡ endOf ((stepOf c b k) .state .splitter)
+  pub step-refused : (n : ℕ) → (stepOf c b k) .answer ≡ Wrote.refused n
+      → restOf c b (k .payload ∷ ps) ≡ endOf ((stepOf c b k) .state .splitter)
   step-refused n e = sym step-gives ∙ ap (λ (a : Wrote). runOn a (stepOf c b k) (λ d z. restOf d z ps)) e
 
 -- ---- a run of steps
@@ -368,17 +417,20 @@ run-same (Wrote.refused k) x go go′ e = refl
 run-same (written n) x go go′ e = ap (λ (l : List ℕ). take n (x .text) ++ l) e
 
 -- from any state on
-pub run-gives : (ks : List Call) → AllRoomy ks → AllPayloads (map (λ (k : Call). k .payload) ks) → (c : CutSheet) (b : List ℕ) → pendSize ≤ length b
-    → runSteps c b ks ≡ restOf c b (map (λ (k : Call). k .payload) ks)
+pub run-gives : (ks : List Lending) → AllRoomy ks → AllPayloads (map (λ (k : Lending). k .payload) ks)
+    → (c : CutSheet) (b : List ℕ) → pendSize ≤ length b
+    → runSteps c b ks ≡ restOf c b (map (λ (k : Lending). k .payload) ks)
 run-gives [] room small c b long = refl
 run-gives (k ∷ ks) room small c b long =
-    run-same ((stepOf c b k) .answer) (stepOf c b k) (λ d z. runSteps d z ks) (λ d z. restOf d z (map (λ (j : Call). j .payload) ks))
+    run-same ((stepOf c b k) .answer) (stepOf c b k) (λ d z. runSteps d z ks)
+    (λ d z. restOf d z (map (λ (j : Lending). j .payload) ks))
     (run-gives ks (room .1) (small .1) ((stepOf c b k) .state) ((stepOf c b k) .pend)
     (omega (arith, step-pend-length c (k .payload) (lent b (k .out) (k .rows) (k .text)))))
-    ∙ step-gives c b k (map (λ (j : Call). j .payload) ks) (room .0) small long
+    ∙ step-gives c b k (map (λ (j : Lending). j .payload) ks) (room .0) small long
 
 -- the steps over a stream's payloads give its sheet, whatever the buffers hold
-pub steps-give-sheet : (code : ℕ) (stream : List ℕ) (calls : List Call) → map (λ (k : Call). k .payload) calls ≡ payloadsOf stream → AllRoomy calls
+pub steps-give-sheet : (code : ℕ) (stream : List ℕ) (calls : List Lending)
+    → map (λ (k : Lending). k .payload) calls ≡ payloadsOf stream → AllRoomy calls
     → (pend : List ℕ) → pendSize ≤ length pend → runSteps (newSheet code) pend calls ≡ sheetOf code stream
 unfolding sheetOf
 steps-give-sheet code stream calls e room pend long =
@@ -390,21 +442,30 @@ steps-give-sheet code stream calls e room pend long =
 -- ---- the shortest buffers
 
 -- a call with the shortest buffers of a program
-abbrev pub shortest : List ℕ → Call
-shortest p = record { payload = p; out = replicate outSize 0; rows = replicate rowsSize (pos 0); text = replicate 110565 0 }
+abbrev pub shortest : List ℕ → Lending
+shortest p = record {
+  payload = p;
+  out = replicate outSize 0;
+  rows = replicate rowsSize (pos 0);
+  text = replicate textSize 0;
+}
 
 -- they are long enough for any payload
 pub roomy-instance : (ps : List (List ℕ)) → AllRoomy (map shortest ps)
 roomy-instance [] = tt
-roomy-instance (p ∷ ps) =
-    (record { out-room = full {A = ℕ} outSize 0; rows-room = full rowsSize (pos 0); text-room = full {A = ℕ} 110565 0 }, roomy-instance ps)
+roomy-instance (p ∷ ps) = (
+  record { out-room = full {A = ℕ} outSize 0; rows-room = full rowsSize (pos 0); text-room = full {A = ℕ} textSize 0 },
+  roomy-instance ps,
+)
 
-shortest-payloads : (ps : List (List ℕ)) → map (λ (k : Call). k .payload) (map shortest ps) ≡ ps
+shortest-payloads : (ps : List (List ℕ)) → map (λ (k : Lending). k .payload) (map shortest ps) ≡ ps
 shortest-payloads [] = refl
 shortest-payloads (p ∷ ps) = ap (λ (l : List (List ℕ)). p ∷ l) (shortest-payloads ps)
 
 -- so a run with them gives the sheet of every stream
-pub shortest-give-sheet : (code : ℕ) (stream : List ℕ) → runSteps (newSheet code) (replicate pendSize 0) (map shortest (payloadsOf stream)) ≡ sheetOf code stream
+pub shortest-give-sheet : (code : ℕ) (stream : List ℕ)
+    → runSteps (newSheet code) (replicate pendSize 0) (map shortest (payloadsOf stream)) ≡ sheetOf code stream
 shortest-give-sheet code stream =
-    steps-give-sheet code stream (map shortest (payloadsOf stream)) (shortest-payloads (payloadsOf stream)) (roomy-instance (payloadsOf stream))
+    steps-give-sheet code stream (map shortest (payloadsOf stream)) (shortest-payloads (payloadsOf stream))
+    (roomy-instance (payloadsOf stream))
     (replicate pendSize 0) (full {A = ℕ} pendSize 0)

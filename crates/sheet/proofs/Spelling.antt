@@ -1,20 +1,13 @@
 -- A number that is being counted or written digit by digit, from the last to the first. Assumes nothing.
 use mathlib.Core.Path.{_≡_, sym, _∙_, ap}
 use mathlib.Core.List.{List, [], _∷_, _++_, append-assoc, append-nil}
-use Prim.Native.Nat.{ℕ, _+_, _-_, _/_, _%_, _≤_, _<_, _^_}
+use Prim.Native.Nat.{ℕ, _+_, _-_, _/_, _%_, _≤_, _<_}
 use native.Mathlib.Omega.{arith}
 use lib.ListN.{length, set, length-append}
-use Rattle.sheet.specs.Layout.{digit, decimal}
+use Rattle.numbers.specs.Decimal.{digit, decimal}
 use Rattle.sheet.specs.Step.{put}
-use Rattle.sheet.proofs.Digits.{decimal-small, decimal-large, decimal-least, decimal-most}
+use Rattle.numbers.proofs.Digits.{decimal-small, decimal-large, decimal-least}
 use Rattle.sheet.proofs.Writing.{put-none, put-before, put-length}
-
--- a number of 64 bits has at most twenty digits
-pub twenty : (n : ℕ) → n < 2 ^ 64 → length (decimal n) ≤ 20
-twenty n h = decimal-most 20 n (omega arith) (omega arith)
-
-pub longer : (n : ℕ) → 9 < n → length (decimal n) ≡ length (decimal (n / 10)) + 1
-longer n h = ap length (decimal-large n (omega arith)) ∙ length-append (decimal (n / 10)) (digit (n % 10) ∷ [])
 
 -- tail is written from a place on, and rest is still to be written before it
 pub record Spelling (n end : ℕ) (old text : List ℕ) (at rest : ℕ) : Type 0 where
@@ -25,9 +18,15 @@ pub record Spelling (n end : ℕ) (old text : List ℕ) (at rest : ℕ) : Type 0
 
 module _ (n end : ℕ) (old : List ℕ) where
   pub spelling-none : Spelling n end old old end n
-  spelling-none = record { tail = []; text-is = sym (put-none end old); digits-are = append-nil (decimal n); ends = omega arith }
+  spelling-none = record {
+    tail = [];
+    text-is = sym (put-none end old);
+    digits-are = append-nil (decimal n);
+    ends = omega arith;
+  }
 
-  module _ (room : length (decimal n) ≤ end) (inside : end ≤ length old) (text : List ℕ) (at rest : ℕ) (s : Spelling n end old text at rest) where
+  module _ (room : length (decimal n) ≤ end) (inside : end ≤ length old) (text : List ℕ) (at rest : ℕ)
+      (s : Spelling n end old text at rest) where
     lengths : length (decimal rest) + length (s .tail) ≡ length (decimal n)
     lengths = sym (length-append (decimal rest) (s .tail)) ∙ ap length (s .digits-are)
 
@@ -46,7 +45,8 @@ module _ (n end : ℕ) (old : List ℕ) where
     spelling-next h =
         record {
           tail = digit (rest % 10) ∷ s .tail;
-          text-is = put-before at (s .tail) (digit (rest % 10)) text old (s .text-is) spelling-room (omega (arith, s .ends));
+          text-is = put-before at (s .tail) (digit (rest % 10)) text old (s .text-is) spelling-room
+              (omega (arith, s .ends));
           digits-are =
               sym (append-assoc (decimal (rest / 10)) (digit (rest % 10) ∷ []) (s .tail))
               ∙ ap (λ (l : List ℕ). l ++ s .tail) (sym (decimal-large rest (omega arith)))

@@ -17,7 +17,11 @@ module _ {ℓ} {A : Type ℓ} where
 
   pub four-length : (a b c d : List A) → length (a ++ (b ++ (c ++ d))) ≡ length a + length b + length c + length d
   four-length a b c d =
-      let e : length (a ++ (b ++ (c ++ d))) ≡ length a + (length b + (length c + length d)) = rw (length-append, length-append, length-append) in
+      let e : length (a ++ (b ++ (c ++ d))) ≡ length a + (length b + (length c + length d)) = rw (
+        length-append,
+        length-append,
+        length-append,
+      ) in
       e ∙ (omega arith)
 
   -- from the front on
@@ -30,11 +34,14 @@ module _ {ℓ} {A : Type ℓ} where
       simp (length-append, length-drop, l) (omega arith)
 
   -- one, and then what follows it
-  pub put-put : (at : ℕ) (a b old : List A) → at + length a ≤ length old → put (at + length a) b (put at a old) ≡ put at (a ++ b) old
+  pub put-put : (at : ℕ) (a b old : List A) → at + length a ≤ length old
+      → put (at + length a) b (put at a old) ≡ put at (a ++ b) old
   put-put at a b old h =
       let l : length (take at old) ≡ at = length-take-le at old (omega arith) in
-      let p : length (take at old ++ a) ≡ at + length a = length-append (take at old) a ∙ ap (λ (k : ℕ). k + length a) l in
-      let q : put at a old ≡ (take at old ++ a) ++ drop (at + length a) old = sym (append-assoc (take at old) a (drop (at + length a) old)) in
+      let p : length (take at old ++ a) ≡ at + length a = length-append (take at old) a ∙ ap
+      (λ (k : ℕ). k + length a) l in
+      let q : put at a old ≡ (take at old ++ a) ++ drop (at + length a) old = sym
+      (append-assoc (take at old) a (drop (at + length a) old)) in
       let t : take (at + length a) (put at a old) ≡ take at old ++ a =
       ap (take (at + length a)) q ∙ take-at (take at old ++ a) (drop (at + length a) old) (at + length a) p in
       let d : drop (at + length a) (put at a old) ≡ drop (at + length a) old =
@@ -48,17 +55,22 @@ module _ {ℓ} {A : Type ℓ} where
       rw (t, e, append-assoc, append-assoc)
 
   -- the same for texts and places that are known by equations
-  pub put-then : (at p : ℕ) (a b old text after : List A) → text ≡ put at a old → p ≡ at + length a → after ≡ put p b text → at + length a ≤ length old
+  pub put-then : (at p : ℕ) (a b old text after : List A) → text ≡ put at a old → p ≡ at + length a
+      → after ≡ put p b text → at + length a ≤ length old
       → after ≡ put at (a ++ b) old
-  put-then at p a b old text after e q f h = f ∙ ap (λ (k : ℕ). put k b text) q ∙ ap (put (at + length a) b) e ∙ put-put at a b old h
+  put-then at p a b old text after e q f h =
+      f ∙ ap (λ (k : ℕ). put k b text) q ∙ ap (put (at + length a) b) e ∙ put-put at a b old h
 
   -- four in a row
-  pub put-four : (at : ℕ) (a b c d old : List A) (p q r : ℕ) (t u v w : List A) → at + length (a ++ (b ++ (c ++ d))) ≤ length old
-      → t ≡ put at a old → p ≡ at + length a → u ≡ put p b t → q ≡ p + length b → v ≡ put q c u → r ≡ q + length c → w ≡ put r d v
+  pub put-four : (at : ℕ) (a b c d old : List A) (p q r : ℕ) (t u v w : List A)
+      → at + length (a ++ (b ++ (c ++ d))) ≤ length old
+      → t ≡ put at a old → p ≡ at + length a → u ≡ put p b t → q ≡ p + length b → v ≡ put q c u → r ≡ q + length c
+      → w ≡ put r d v
       → w ≡ put at (a ++ (b ++ (c ++ d))) old
   put-four at a b c d old p q r t u v w h e1 e2 e3 e4 e5 e6 e7 =
       let n1 : length (a ++ b) ≡ length a + length b = length-append a b in
-      let n2 : length ((a ++ b) ++ c) ≡ length a + length b + length c = length-append (a ++ b) c ∙ ap (λ (k : ℕ). k + length c) n1 in
+      let n2 : length ((a ++ b) ++ c) ≡ length a + length b + length c = length-append (a ++ b) c ∙ ap
+      (λ (k : ℕ). k + length c) n1 in
       let n3 : length (a ++ (b ++ (c ++ d))) ≡ length a + length b + length c + length d = four-length a b c d in
       let s2 = put-then at p a b old t u e1 e2 e3 (omega arith) in
       let s3 = put-then at q (a ++ b) c old u v s2 (omega arith) e5 (omega arith) in
@@ -82,7 +94,8 @@ module _ {ℓ} {A : Type ℓ} where
       ∙ put-put at a (c ∷ []) old (omega arith)
 
   -- a store before it
-  pub put-before : (at : ℕ) (a : List A) (c : A) (text old : List A) → text ≡ put at a old → 1 ≤ at → at + length a ≤ length old
+  pub put-before : (at : ℕ) (a : List A) (c : A) (text old : List A) → text ≡ put at a old → 1 ≤ at
+      → at + length a ≤ length old
       → set text (at - 1) c ≡ put (at - 1) (c ∷ a) old
   put-before at a c text old e o h =
       let k = at - 1 in
@@ -92,7 +105,8 @@ module _ {ℓ} {A : Type ℓ} where
       let u : take k (take at old) ≡ take k old = take-take k at old (omega arith) in
       let z : suc k ≡ at = omega arith in
       let w : k < length (put at a old) = omega (arith, put-length at a old h) in
-      let p : take k (put at a old) ≡ take k old = take-append-le k (take at old) (a ++ drop (at + length a) old) (omega arith) ∙ u in
+      let p : take k (put at a old) ≡ take k old = take-append-le k (take at old) (a ++ drop (at + length a) old)
+      (omega arith) ∙ u in
       let q : drop (suc k) (put at a old) ≡ a ++ drop (at + length a) old =
       ap (λ (j : ℕ). drop j (put at a old)) z ∙ drop-at (take at old) (a ++ drop (at + length a) old) at l in
       let r : at + length a ≡ k + length (c ∷ a) = omega arith in
@@ -101,7 +115,8 @@ module _ {ℓ} {A : Type ℓ} where
       ∙ rw (p, q, r)
 
 -- one more space
-pub spaces-next : (from i : ℕ) (text old : List ℕ) → from ≤ i → i < length old → text ≡ put from (replicate (i - from) space) old
+pub spaces-next : (from i : ℕ) (text old : List ℕ) → from ≤ i → i < length old
+    → text ≡ put from (replicate (i - from) space) old
     → set text i space ≡ put from (replicate (i + 1 - from) space) old
 spaces-next from i text old a h e =
     let n = i - from in

@@ -1,12 +1,11 @@
--- THE LAYOUT of a sheet's lines. Document 01, port order 7: 'decimals without leading zeros and right-justified, a space between
--- columns ..'. Text is a list of ASCII codes.
-use mathlib.Core.Bool.{cond}
+-- THE LAYOUT of a sheet's lines. Document 01, port order 7: 'decimals without leading zeros and right-justified, a
+-- space between columns ..'. Text is a list of ASCII codes.
+use mathlib.Core.Bool.{Bool, true, false}
 use mathlib.Core.List.{List, [], _∷_, _++_}
-use Prim.Native.Nat.{ℕ, zero, suc, _+_, _-_, _/_, _%_, _^_}
-use lib.Dec.{ltb}
+use Prim.Native.Nat.{ℕ, zero, suc, _-_, _%_, _^_}
 use lib.IntN.{ℤ, pos, negsuc}
 use lib.ListN.{length, getD, replicate}
-use mathlib.Core.Bool.{Bool, true, false}
+use Rattle.numbers.specs.Decimal.{decimal}
 use Rattle.sheet.specs.declared.column.Cell.{Cell}
 use Rattle.sheet.specs.declared.column.Cell.the-variants.{Number, Absent}
 
@@ -21,20 +20,7 @@ minus = 45
 abbrev pub lineFeed : ℕ
 lineFeed = 10
 
--- a decimal digit
-abbrev pub digit : ℕ → ℕ
-digit d = 48 + d
-
 -- ---- numbers
-
--- the digits of n, the last k of them at most: those of n / 10, if there are any, and then n % 10
-abbrev pub digits : ℕ → ℕ → List ℕ
-digits zero n = []
-digits (suc k) n = let more = digits k (n / 10) ++ (digit (n % 10) ∷ []) in cond (ltb n 10) (digit n ∷ []) more
-
--- a decimal without leading zeros; no number n has more than n + 1 digits
-unfoldable pub decimal : ℕ → List ℕ
-decimal n = digits (suc n) n
 
 -- a sign, where there is one, and the number without it
 abbrev pub spelled : Bool → ℕ → List ℕ
@@ -108,8 +94,12 @@ cells n row =
     ∷ stampCell (getD row 6 (pos 0)) (getD row 7 (pos 0))
     ∷ []
 
+-- the line of these cells
+abbrev pub lineOf : List Cell → List ℕ
+lineOf cells = closed (spaced (columns lineWidths cells))
+
 unfoldable pub line : ℕ → List ℤ → List ℕ
-line n row = closed (spaced (columns lineWidths (cells n row)))
+line n row = lineOf (cells n row)
 
 -- ---- the last line: 'E, then its columns 1 and 2, discarded (20) and pending (5)'
 
@@ -117,4 +107,5 @@ abbrev pub endWidths : List ℕ
 endWidths = 20 ∷ 5 ∷ []
 
 unfoldable pub endLine : ℕ → ℕ → List ℕ
-endLine discarded pending = closed (spaced ((69 ∷ []) ∷ columns endWidths (Number (pos discarded) ∷ Number (pos pending) ∷ [])))
+endLine discarded pending =
+    closed (spaced ((69 ∷ []) ∷ columns endWidths (Number (pos discarded) ∷ Number (pos pending) ∷ [])))

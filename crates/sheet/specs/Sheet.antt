@@ -5,8 +5,12 @@ use Prim.Native.Nat.{ℕ, zero, suc, _+_, _-_, _*_, _/_}
 use lib.Dec.{eqb, leb}
 use lib.IntN.{ℤ, pos}
 use lib.ListN.{length, take, drop, replicate}
+use Rattle.heads.specs.Syntax.{syntaxOf}
+use Rattle.heads.specs.declared.syntax.CodedSyntax.{CodedSyntax}
+use Rattle.heads.specs.declared.syntax.CodedSyntax.the-variants.{Known, Refused as NoSyntax}
 use Rattle.splitter.specs.Answer.{Answer, refused, done}
-use Rattle.splitter.specs.Push.{Outcome, event, push, new, rowWidth}
+use Rattle.splitter.specs.Bounds.{pendingMost, frameLeast, rowWidth}
+use Rattle.splitter.specs.Push.{Outcome, event, push, new}
 use Rattle.splitter.specs.declared.timing.Pts.{Pts}
 use Rattle.splitter.specs.declared.timing.Pts.the-variants.{At, Absent}
 use Rattle.splitter.specs.declared.state.AudioFrameSplitter.{AudioFrameSplitter}
@@ -52,16 +56,17 @@ pub record Standing : Type 0 where
 
 -- the shortest buffers that number 12 lets pass with up to 8190 bytes pending and a payload
 abbrev pub pendSize : ℕ
-pendSize = 8190
+pendSize = pendingMost
 
 abbrev pub outSize : ℕ
 outSize = pendSize + payloadSize
 
 abbrev pub rowsSize : ℕ
-rowsSize = rowWidth * (outSize / 7)
+rowsSize = rowWidth * (outSize / frameLeast)
 
 abbrev pub pushed : Standing → List ℕ → Outcome
-pushed d p = push (d .splitter) (event p (timeOf (d .begun)) (d .pend) (replicate outSize 0) (replicate rowsSize (pos 0)))
+pushed d p =
+    push (d .splitter) (event p (timeOf (d .begun)) (d .pend) (replicate outSize 0) (replicate rowsSize (pos 0)))
 
 -- after a push that gave r rows
 abbrev pub moved : Standing → Outcome → ℕ → Standing
@@ -90,11 +95,17 @@ sheetOf code stream = sheetFrom (opened code) (payloadsOf stream)
 
 -- ---- the program
 
--- 'Standard input: 0, 1 or 2 for the syntax code, a line feed, the stream'
+-- 'Standard input: 0, 1 or 2 for the syntax code, a line feed, the stream': a digit, if there is a syntax with that
+-- code
+abbrev pub codeLine : CodedSyntax → ℕ → FirstLine
+codeLine (Known x) code = Code code
+codeLine (NoSyntax g) code = Malformed
+
 unfoldable pub firstLine : List ℕ → FirstLine
 firstLine [] = Malformed
 firstLine (c ∷ []) = Malformed
-firstLine (c ∷ f ∷ stream) = cond (leb 48 c && leb c 50 && eqb f lineFeed) (Code (c - 48)) Malformed
+firstLine (c ∷ f ∷ stream) =
+    cond (leb 48 c && leb c 57 && eqb f lineFeed) (codeLine (syntaxOf (c - 48)) (c - 48)) Malformed
 
 -- 'one line with a question mark alone'
 abbrev pub questionLine : List ℕ

@@ -1,4 +1,5 @@
--- THE STEPS by which a program makes a sheet: one payload's lines, and the last line. Each writes to the front of a lent text.
+-- THE STEPS by which a program makes a sheet: one payload's lines, and the last line. Each writes to the front of a
+-- lent text.
 use mathlib.Core.Bool.{Bool, true, false}
 use mathlib.Core.List.{List, _++_}
 use Prim.Native.Nat.{ℕ, _+_, _*_, _/_, _≤_}
@@ -8,7 +9,8 @@ use lib.ListN.{length, take, drop}
 use Rattle.heads.specs.Syntax.{syntaxOf}
 use Rattle.heads.specs.declared.syntax.CodedSyntax.{CodedSyntax}
 use Rattle.heads.specs.declared.syntax.CodedSyntax.the-variants.{Known, Refused as NoSyntax}
-use Rattle.splitter.specs.Answer.{Answer, done, refusalNumber}
+use Rattle.splitter.specs.Answer.{Answer, done, callNumber}
+use Rattle.splitter.specs.Bounds.{frameLeast}
 use Rattle.splitter.specs.Push.{Outcome, event, over, push, new}
 use Rattle.splitter.specs.declared.answer.SplitterRefusal.the-variants.{SyntaxCode}
 use Rattle.splitter.specs.declared.state.AudioFrameSplitter.{AudioFrameSplitter}
@@ -37,7 +39,7 @@ pub data Wrote : Type 0 where
   written : ℕ → Wrote
 
 abbrev pub sheetAnswer : SheetAnswer → Wrote
-sheetAnswer (SheetAnswer.Refused g) = refused (refusalNumber g)
+sheetAnswer (SheetAnswer.Refused g) = refused (callNumber g)
 sheetAnswer (Written n) = written n
 
 -- ---- a new sheet: 7
@@ -77,6 +79,9 @@ pub record Step : Type 0 where
   pub rows : List ℤ
   pub text : List ℕ
 
+abbrev pub stepped : Wrote → CutSheet → List ℕ → List ℕ → List ℤ → List ℕ → Step
+stepped a c b o r t = record { answer = a; state = c; pend = b; out = o; rows = r; text = t }
+
 abbrev pub stay : ℕ → CutSheet → Lent → Step
 stay k c b = record { answer = refused k; state = c; pend = b .pend; out = b .out; rows = b .rows; text = b .text }
 
@@ -103,14 +108,15 @@ pushOf c p b = push (c .splitter) (event p (timeOf (c .begun)) (b .pend) (b .out
 
 -- a text is measured as the rows are: a line for each seven of the bytes pending and brought
 abbrev pub tightText : ℕ → ℕ → Bool
-tightText text bytes = ltb text (lineLength * (bytes / 7))
+tightText text bytes = ltb text (lineLength * (bytes / frameLeast))
 
 -- the shortest text that is never tight, with up to 8190 bytes pending and a payload
 abbrev pub textSize : ℕ
-textSize = lineLength * (outSize / 7)
+textSize = lineLength * (outSize / frameLeast)
 
 unfoldable pub step : CutSheet → List ℕ → Lent → Step
-step c p b = stepBy ((pushOf c p b) .answer) (tightText (length (b .text)) (c .splitter .pending + length p)) c b (pushOf c p b)
+step c p b =
+    stepBy ((pushOf c p b) .answer) (tightText (length (b .text)) (c .splitter .pending + length p)) c b (pushOf c p b)
 
 -- ---- the last line
 
@@ -121,6 +127,9 @@ endMost = 1 + (1 + 20) + (1 + 20) + 1
 pub record End : Type 0 where
   pub answer : Wrote
   pub text : List ℕ
+
+abbrev pub ended : Wrote → List ℕ → End
+ended a t = record { answer = a; text = t }
 
 abbrev pub endIf : Bool → CutSheet → List ℕ → End
 endIf true c text = record { answer = refused 12; text = text }

@@ -1,8 +1,8 @@
 // Columns: each writes from a place of the text on, and answers the place behind it.
-use crate::number::magnitude;
-use crate::number::places;
 use crate::number::put_digits;
 use crate::number::put_spaces;
+use numbers::magnitude;
+use numbers::places;
 ghost use mathlib.Core.Path.{_≡_};
 ghost use mathlib.Core.List.{_∷_, [], _++_};
 ghost use Prim.Native.Nat.{_+_, _-_};

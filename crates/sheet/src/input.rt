@@ -1,6 +1,9 @@
 // The first line of the input.
+use heads::AudioSyntax;
+use heads::CodedSyntax;
 ghost use mathlib.Core.Path.{_≡_};
-ghost use Rattle.sheet.specs.Sheet.{firstLine};
+ghost use Rattle.heads.specs.Syntax.{syntaxOf};
+ghost use Rattle.sheet.specs.Sheet.{codeLine, firstLine};
 
 pub enum FirstLine {
     // The syntax code. The stream begins behind the line, which has two bytes.
@@ -8,7 +11,7 @@ pub enum FirstLine {
     Malformed,
 }
 
-// Reads the first line: 0, 1 or 2, and a line feed. Two bytes of the input are enough.
+// Reads the first line: a syntax code of one digit, and a line feed. Two bytes of the input are enough.
 pub fn first_line(input: &[u8]) -> FirstLine
     ensures { λ r. ⌜ r ≡ firstLine (now (input .entry)) ⌝ }
 {
@@ -18,9 +21,19 @@ pub fn first_line(input: &[u8]) -> FirstLine
     if input[1] != b'\n' {
         return FirstLine::Malformed;
     }
-    let code = input[0];
-    match code {
-        b'0'..=b'2' => FirstLine::Code((code - b'0') as u32),
+    let digit = input[0];
+    match digit {
+        b'0'..=b'9' => coded((digit - b'0') as u32),
         _ => FirstLine::Malformed,
+    }
+}
+
+// A code that no syntax has is malformed.
+fn coded(code: u32) -> FirstLine
+    ensures { λ r. ⌜ r ≡ codeLine (syntaxOf code) code ⌝ }
+{
+    match AudioSyntax::from_code(code) {
+        CodedSyntax::Known(_) => FirstLine::Code(code),
+        CodedSyntax::Refused(_) => FirstLine::Malformed,
     }
 }

@@ -1,34 +1,10 @@
 // Numbers as text: digits, and the spaces before them.
 ghost use mathlib.Core.Path.{_≡_};
 ghost use Prim.Native.Nat.{_+_, _-_, _≤_};
-ghost use lib.IntN.{natAbs};
 ghost use lib.ListN.{length, replicate};
-ghost use Rattle.sheet.specs.Layout.{decimal, space};
+ghost use Rattle.numbers.specs.Decimal.{decimal};
+ghost use Rattle.sheet.specs.Layout.{space};
 ghost use Rattle.sheet.specs.Step.{put};
-
-// How far a number is from 0. A negative one goes by way of -1 - x, which fits also where x is -2^63.
-pub fn magnitude(x: i64) -> u64
-    ensures { λ r. ⌜ r ≡ natAbs x ⌝ }
-{
-    if x >= 0 {
-        return x as u64;
-    }
-    let beyond = (-1 - x) as u64;
-    beyond + 1
-}
-
-// How many digits n has.
-pub fn places(n: u64) -> usize
-    ensures { λ r. ⌜ r ≡ length (decimal n) ⌝ }
-{
-    let mut count = 1;
-    let mut rest = n;
-    while rest > 9 {
-        rest /= 10;
-        count += 1;
-    }
-    count
-}
 
 // Writes the digits of n, the last one before place end.
 pub fn put_digits(text: &mut [u8], end: usize, n: u64)

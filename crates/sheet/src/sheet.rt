@@ -3,6 +3,7 @@ use crate::line::number_after;
 use crate::line::put_end_line;
 use crate::line::put_lines;
 use splitter::AudioFrameSplitter;
+use splitter::FRAME_MIN;
 use splitter::Limits;
 use splitter::NewSplitter;
 use splitter::Pts;
@@ -11,14 +12,15 @@ use splitter::SplitterRefusal;
 ghost use mathlib.Core.Path.{_≡_};
 ghost use Prim.Native.Nat.{_*_, _≤_};
 ghost use lib.ListN.{length};
-ghost use Rattle.splitter.specs.Answer.{refusalNumber};
-ghost use Rattle.splitter.specs.Push.{over, rowWidth};
+ghost use Rattle.splitter.specs.Answer.{callNumber};
+ghost use Rattle.splitter.specs.Bounds.{rowWidth};
+ghost use Rattle.splitter.specs.Push.{over};
 ghost use Rattle.sheet.specs.Sheet.{timeOf, linesOf};
 ghost use Rattle.sheet.specs.Parts.{RowsFit};
-ghost use Rattle.sheet.specs.Step.{Room, lineLength, newSheetOf, sheetAnswer, refused, written, sheetAfter, step, lent, finish};
+ghost use Rattle.sheet.specs.Step.{Room, lineLength, newSheetOf, sheetAnswer, refused, written, sheetAfter, stepped, step, lent, ended, finish};
 
 // How many bytes the line of a frame has.
-const LINE_LEN: usize = 63;
+pub const LINE_LEN: usize = 63;
 
 // How many bytes the last line can have.
 const END_MAX: usize = 44;
@@ -73,7 +75,8 @@ impl CutSheet {
         Pts::At(0)
     }
 
-    // Pushes one payload, and writes a line for each frame that it completes. A push writes to its buffers, so all is measured before it.
+    // Pushes one payload, and writes a line for each frame that it completes. A push writes to its buffers, so all is
+    // measured before it.
     pub fn cut(
         self,
         payload: &[u8],
@@ -82,12 +85,10 @@ impl CutSheet {
         rows: &mut [i64],
         text: &mut [u8],
     ) -> CutLines
-        ensures { λ r. ⌜ sheetAnswer (r .answer) ≡ step self (now (payload .entry)) (lent (now (pending .entry)) (now (out .entry)) (now (rows .entry)) (now (text .entry))) .answer ⌝ }
-        ensures { λ r. ⌜ r .sheet ≡ step self (now (payload .entry)) (lent (now (pending .entry)) (now (out .entry)) (now (rows .entry)) (now (text .entry))) .state ⌝ }
-        ensures { λ _. ⌜ now (pending .exit) ≡ step self (now (payload .entry)) (lent (now (pending .entry)) (now (out .entry)) (now (rows .entry)) (now (text .entry))) .pend ⌝ }
-        ensures { λ _. ⌜ now (out .exit) ≡ step self (now (payload .entry)) (lent (now (pending .entry)) (now (out .entry)) (now (rows .entry)) (now (text .entry))) .out ⌝ }
-        ensures { λ _. ⌜ now (rows .exit) ≡ step self (now (payload .entry)) (lent (now (pending .entry)) (now (out .entry)) (now (rows .entry)) (now (text .entry))) .rows ⌝ }
-        ensures { λ _. ⌜ now (text .exit) ≡ step self (now (payload .entry)) (lent (now (pending .entry)) (now (out .entry)) (now (rows .entry)) (now (text .entry))) .text ⌝ }
+        ensures { λ r. ⌜
+            stepped (sheetAnswer (r .answer)) (r .sheet) (now (pending .exit)) (now (out .exit)) (now (rows .exit)) (now (text .exit))
+            ≡ step self (now (payload .entry)) (lent (now (pending .entry)) (now (out .entry)) (now (rows .entry)) (now (text .entry)))
+            ⌝ }
     {
         let splitter = self.splitter;
         let pts = self.pts();
@@ -96,7 +97,7 @@ impl CutSheet {
             return self.refused(refusal);
         }
         let bytes = splitter.pending_bytes() + payload.len();
-        if text.len() < LINE_LEN * (bytes / 7) {
+        if text.len() < LINE_LEN * (bytes / FRAME_MIN) {
             return self.refused(SplitterRefusal::Buffer);
         }
         let pushed = splitter.push(payload, pts, pending, out, rows);
@@ -111,7 +112,7 @@ impl CutSheet {
 
     // A step that is turned down leaves the sheet as it was.
     fn refused(self, refusal: SplitterRefusal) -> CutLines
-        ensures { λ r. ⌜ sheetAnswer (r .answer) ≡ refused (refusalNumber refusal) ⌝ }
+        ensures { λ r. ⌜ sheetAnswer (r .answer) ≡ refused (callNumber refusal) ⌝ }
         ensures { λ r. ⌜ r .sheet ≡ self ⌝ }
     {
         CutLines {
@@ -128,10 +129,20 @@ impl CutSheet {
         count: usize,
         text: &mut [u8],
     ) -> CutLines
-        requires { ⌜ (count * rowWidth ≤ length (now rows)) × RowsFit count (now rows) × Room 0 (count * lineLength) (now text) ⌝ }
-        ensures { λ r. ⌜ sheetAnswer (r .answer) ≡ written (length (linesOf (self .number) count (now (rows .entry)))) ⌝ }
+        requires { ⌜
+            (count * rowWidth ≤ length (now rows))
+            × RowsFit count (now rows)
+            × Room 0 (count * lineLength) (now text)
+            ⌝ }
+        ensures { λ r. ⌜
+            sheetAnswer (r .answer)
+            ≡ written (length (linesOf (self .number) count (now (rows .entry))))
+            ⌝ }
         ensures { λ r. ⌜ r .sheet ≡ sheetAfter self splitter count ⌝ }
-        ensures { λ _. ⌜ now (text .exit) ≡ over (linesOf (self .number) count (now (rows .entry))) (now (text .entry)) ⌝ }
+        ensures { λ _. ⌜
+            now (text .exit)
+            ≡ over (linesOf (self .number) count (now (rows .entry))) (now (text .entry))
+            ⌝ }
     {
         let len = put_lines(text, self.number, rows, count);
         CutLines {
@@ -146,8 +157,7 @@ impl CutSheet {
 
     // Writes the last line: the bytes discarded, and those pending.
     pub fn finish(self, text: &mut [u8]) -> SheetAnswer
-        ensures { λ r. ⌜ sheetAnswer r ≡ finish self (now (text .entry)) .answer ⌝ }
-        ensures { λ _. ⌜ now (text .exit) ≡ finish self (now (text .entry)) .text ⌝ }
+        ensures { λ r. ⌜ ended (sheetAnswer r) (now (text .exit)) ≡ finish self (now (text .entry)) ⌝ }
     {
         if text.len() < END_MAX {
             let refusal = SplitterRefusal::Buffer;

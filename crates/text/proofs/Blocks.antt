@@ -9,21 +9,25 @@ use lib.ListN.{length, length-append, getD, take, set}
 use lib.Seq.{take-suc, take-length}
 use borrow.Author.Tests.{lt-ltb, le-ltb}
 use Rattle.io.specs.Digits.{Fewest, digits as ioDigits}
-use Rattle.text.specs.Output.{nextPlace, lenAfter, blockAfter, Put, Written, digits, decimal}
+use Rattle.numbers.specs.Decimal.{digits, decimal}
+use Rattle.text.specs.Output.{blockLength, nextPlace, lenAfter, blockAfter, Put, Written}
 use Rattle.text.specs.declared.output.Output.{Output}
 
 -- ---- one byte
 
-place-within : (len : ℕ) → len < 8192 → nextPlace len ≡ len
+place-within : (len : ℕ) → len < blockLength → nextPlace len ≡ len
 unfolding nextPlace
-place-within len h = rw (lt-ltb len 8192 h)
+place-within len h = rw (lt-ltb len blockLength h)
 
-place-full : (len : ℕ) → 8192 ≤ len → nextPlace len ≡ 0
+place-full : (len : ℕ) → blockLength ≤ len → nextPlace len ≡ 0
 unfolding nextPlace
-place-full len h = rw (le-ltb len 8192 h)
+place-full len h = rw (le-ltb len blockLength h)
 
-pub put-within : (byte : ℕ) (output : Output) (block : List ℕ) → output .len < 8192
-    → Put (byte ∷ []) output (record { len = output .len + 1; failed = output .failed }) block (set block (output .len) byte)
+pub put-within : (byte : ℕ) (output : Output) (block : List ℕ) → output .len < blockLength
+    → Put (byte ∷ []) output (record {
+      len = output .len + 1;
+      failed = output .failed;
+    }) block (set block (output .len) byte)
 put-within byte output block h = record {
   len = rw (place-within (output .len) h);
   block = rw (place-within (output .len) h);
@@ -31,7 +35,8 @@ put-within byte output block h = record {
   room = λ e. refl;
 }
 
-pub put-full : (byte : ℕ) (output written : Output) (block : List ℕ) → 8192 ≤ output .len → Written output written
+pub put-full : (byte : ℕ) (output written : Output) (block : List ℕ) → blockLength ≤ output .len
+    → Written output written
     → Put (byte ∷ []) output (record { len = 1; failed = written .failed }) block (set block 0 byte)
 put-full byte output written block h w = record {
   len = rw (place-full (output .len) h);
@@ -46,7 +51,8 @@ len-append : (s t : List ℕ) (len : ℕ) → lenAfter (s ++ t) len ≡ lenAfter
 len-append [] t len = refl
 len-append (b ∷ s) t len = len-append s t (nextPlace len + 1)
 
-block-append : (s t : List ℕ) (len : ℕ) (block : List ℕ) → blockAfter (s ++ t) len block ≡ blockAfter t (lenAfter s len) (blockAfter s len block)
+block-append : (s t : List ℕ) (len : ℕ) (block : List ℕ)
+    → blockAfter (s ++ t) len block ≡ blockAfter t (lenAfter s len) (blockAfter s len block)
 block-append [] t len block = refl
 block-append (b ∷ s) t len block = block-append s t (nextPlace len + 1) (set block (nextPlace len) b)
 
@@ -54,13 +60,14 @@ pub put-none : (output : Output) (block : List ℕ) → Put [] output output blo
 put-none output block = record { len = refl; block = refl; failed = λ e. e; room = λ e. refl }
 
 -- while there is room, each byte stands behind the one before
-len-within : (s : List ℕ) (len : ℕ) → len + length s ≤ 8192 → lenAfter s len ≡ len + length s
+len-within : (s : List ℕ) (len : ℕ) → len + length s ≤ blockLength → lenAfter s len ≡ len + length s
 len-within [] len h = omega arith
 len-within (b ∷ s) len h = rw (place-within len (omega arith)) (omega (arith, len-within s (len + 1) (omega arith)))
 
-pub put-both : {s t : List ℕ} {a b c : Output} {first second third : List ℕ} → Put s a b first second → Put t b c second third → Put (s ++ t) a c first third
+pub put-both : {s t : List ℕ} {a b c : Output} {first second third : List ℕ} → Put s a b first second
+    → Put t b c second third → Put (s ++ t) a c first third
 put-both {s} {t} {a} {b} {c} {first} p q =
-    let roomy : a .len + length (s ++ t) ≤ 8192 → b .len + length t ≤ 8192 =
+    let roomy : a .len + length (s ++ t) ≤ blockLength → b .len + length t ≤ blockLength =
     λ e. omega (arith, length-append s t, p .len, len-within s (a .len) (omega (arith, length-append s t)))
     in
     record {
@@ -71,7 +78,8 @@ put-both {s} {t} {a} {b} {c} {first} p q =
     }
 
 -- a byte more of a text
-pub put-next : {a b c : Output} {first second third : List ℕ} (text : List ℕ) (i : ℕ) → i < length text → Put (take i text) a b first second → Put (getD text i 0 ∷ []) b c second third
+pub put-next : {a b c : Output} {first second third : List ℕ} (text : List ℕ) (i : ℕ) → i < length text
+    → Put (take i text) a b first second → Put (getD text i 0 ∷ []) b c second third
     → Put (take (i + 1) text) a c first third
 put-next text i h p q = rw (add-one i, take-suc text i 0 h) (put-both p q)
 
@@ -82,14 +90,16 @@ afterRun output i = record { len = output .len + i; failed = output .failed }
 pub run-none : (output : Output) (block : List ℕ) → Put [] output (afterRun output 0) block block
 run-none output block = record { len = omega arith; block = refl; failed = λ e. e; room = λ e. refl }
 
-pub run-next : {first second : List ℕ} (output : Output) (text : List ℕ) (i : ℕ) → i < length text → output .len + length text ≤ 8192 → Put (take i text) output (afterRun output i) first second
+pub run-next : {first second : List ℕ} (output : Output) (text : List ℕ) (i : ℕ) → i < length text
+    → output .len + length text ≤ blockLength → Put (take i text) output (afterRun output i) first second
     → Put (take (i + 1) text) output (afterRun output (i + 1)) first (set second (output .len + i) (getD text i 0))
 run-next {second = second} output text i h room p =
     let next : output .len + i + 1 ≡ output .len + (i + 1) = omega arith in
     put-next text i h p (rw next at (put-within (getD text i 0) (afterRun output i) second (omega arith)))
 
 -- all of them
-pub run-done : {first second : List ℕ} (output : Output) (text : List ℕ) (i : ℕ) → i ≡ length text → Put (take i text) output (afterRun output i) first second
+pub run-done : {first second : List ℕ} (output : Output) (text : List ℕ) (i : ℕ) → i ≡ length text
+    → Put (take i text) output (afterRun output i) first second
     → Put text output (afterRun output (length text)) first second
 run-done output text i h p = rw (h, take-length text) at p
 
@@ -107,7 +117,11 @@ fewest (suc k) (suc (suc j)) n h f =
     let last : suc (suc j) - 1 ≡ suc j = omega arith in
     let least : 10 ^ suc j ≤ n = rw last at (f .2 (omega arith)) in
     let more : 10 ≤ n = omega (arith, positive j) in
-    rw (le-ltb n 10 more, lt-ltb (n % 10) 10 (omega arith), fewest k (suc j) (n / 10) (omega arith) (omega arith, omega (arith, f .1), λ l. lower j n least))
+    rw (
+      le-ltb n 10 more,
+      lt-ltb (n % 10) 10 (omega arith),
+      fewest k (suc j) (n / 10) (omega arith) (omega arith, omega (arith, f .1), λ l. lower j n least),
+    )
   where
     lower : (j n : ℕ) → 10 ^ suc j ≤ n → 10 ^ (suc j - 1) ≤ n / 10
     lower j n h = let last : suc j - 1 ≡ j = omega arith in rw last (omega arith)

@@ -1,12 +1,12 @@
 -- Hexadecimal digits and their values. Assumes nothing.
 use mathlib.Core.Path.{_≡_, refl, sym, _∙_}
-use mathlib.Core.Bool.{Bool, true, false, _&&_}
-use mathlib.Core.List.{List, _∷_}
-use Prim.Native.Nat.{ℕ, _+_, _-_, _*_, _/_, _%_, _≤_, _<_}
+use mathlib.Core.Bool.{Bool, true, false, _&&_, true≢false}
+use mathlib.Core.List.{List}
+use Prim.Native.Nat.{ℕ, _+_, _-_, _*_, _≤_, _<_}
 use native.Mathlib.Omega.{arith}
 use lib.Dec.{ltb, leb}
 use lib.ListN.{length, getD}
-use borrow.Author.Tests.{lt-ltb, le-ltb, le-leb, lt-leb, ltb-true, ltb-false}
+use borrow.Author.Tests.{lt-ltb, le-ltb, le-leb, lt-leb, leb-true}
 use Rattle.text.specs.Octet.{between, digitValue, digitOf, octetOf, octetAt}
 use Rattle.text.specs.declared.octet.Octet.{Octet}
 use Rattle.text.specs.declared.octet.Octet.the-variants.{Byte, NoByte}
@@ -20,6 +20,13 @@ and-false false = refl
 module _ (low high c : ℕ) where
   pub inside : low ≤ c → c ≤ high → between low high c ≡ true
   inside l h = rw (le-leb low c l, le-leb c high h)
+
+  least : between low high c ≡ true → low ≤ c
+  least e = go (leb low c) refl
+    where
+      go : (b : Bool) → leb low c ≡ b → low ≤ c
+      go true q = leb-true low c q
+      go false q = absurd (let z : true ≡ false = sym e ∙ rw q in true≢false z)
 
   pub below : c < low → between low high c ≡ false
   below l = rw (lt-leb low c l)
@@ -39,9 +46,21 @@ pub lower-value : (c : ℕ) → 97 ≤ c → c ≤ 102 → c - 97 + 10 ≡ digit
 unfolding digitValue
 lower-value c l h = rw (above 48 57 c (omega arith), above 65 70 c (omega arith), inside 97 102 c l h) (omega arith)
 
-pub no-value : (c : ℕ) → between 48 57 c ≡ false → between 65 70 c ≡ false → between 97 102 c ≡ false → 16 ≡ digitValue c
+pub no-value : (c : ℕ) → between 48 57 c ≡ false → between 65 70 c ≡ false → between 97 102 c ≡ false
+    → 16 ≡ digitValue c
 unfolding digitValue
 no-value c d u l = rw (d, u, l)
+
+-- a value below ten is a decimal digit's
+pub decimal-of : (c : ℕ) → digitValue c ≤ 9 → c - 48 ≡ digitValue c
+unfolding digitValue
+decimal-of c h = go (between 48 57 c) (between 65 70 c) (between 97 102 c) refl refl refl
+  where
+    go : (d u l : Bool) → between 48 57 c ≡ d → between 65 70 c ≡ u → between 97 102 c ≡ l → c - 48 ≡ digitValue c
+    go true u l ed eu el = rw ed
+    go false true l ed eu el = absurd (omega (arith, rw (ed, eu) at h, least 65 70 c eu))
+    go false false true ed eu el = absurd (omega (arith, rw (ed, eu, el) at h, least 97 102 c el))
+    go false false false ed eu el = absurd (omega (arith, rw (ed, eu, el) at h))
 
 -- ---- a digit of a value
 
@@ -53,18 +72,6 @@ pub large-digit : (n : ℕ) → 10 ≤ n → 65 + (n - 10) ≡ digitOf n
 unfolding digitOf
 large-digit n h = rw (le-ltb n 10 h) (omega arith)
 
--- it is read back
-pub digit-back : (n : ℕ) → n < 16 → digitValue (digitOf n) ≡ n
-digit-back n h = go (ltb n 10) refl
-  where
-    go : (b : Bool) → ltb n 10 ≡ b → digitValue (digitOf n) ≡ n
-    go true e =
-        let small : n < 10 = ltb-true n 10 e in
-        rw (← small-digit n small, ← decimal-value (48 + n) (omega arith) (omega arith)) (omega arith)
-    go false e =
-        let large : 10 ≤ n = ltb-false n 10 e in
-        rw (← large-digit n large, ← upper-value (65 + (n - 10)) (omega arith) (omega arith)) (omega arith)
-
 -- ---- a byte
 
 pub octet-out : (at : ℕ) (text : List ℕ) → length text ≤ at + 1 → NoByte ≡ octetAt at text
@@ -72,7 +79,8 @@ unfolding octetAt
 octet-out at text h = rw (le-ltb (at + 1) (length text) h)
 
 -- by the values of its digits
-pub octet-by : (at : ℕ) (text : List ℕ) {octet : Octet} {high low : ℕ} → at + 1 < length text → high ≡ digitValue (getD text at 0) → low ≡ digitValue (getD text (at + 1) 0)
+pub octet-by : (at : ℕ) (text : List ℕ) {octet : Octet} {high low : ℕ} → at + 1 < length text
+    → high ≡ digitValue (getD text at 0) → low ≡ digitValue (getD text (at + 1) 0)
     → octet ≡ octetOf high low → octet ≡ octetAt at text
 unfolding octetAt
 octet-by at text h eh el e = e ∙ rw (lt-ltb (at + 1) (length text) h, eh, el)
@@ -88,13 +96,3 @@ no-low high low h = rw (le-ltb low 16 h, and-false (ltb high 16))
 pub byte-of : (high low : ℕ) → high ≤ 15 → low ≤ 15 → Byte (high * 16 + low) ≡ octetOf high low
 unfolding octetOf
 byte-of high low h l = rw (lt-ltb high 16 (omega arith), lt-ltb low 16 (omega arith))
-
--- a byte is read back from its digits
-pub octet-back : (b : ℕ) (text : List ℕ) → b < 256 → octetAt 0 (digitOf (b / 16) ∷ digitOf (b % 16) ∷ text) ≡ Byte b
-octet-back b text h =
-    sym (octet-by 0 (digitOf (b / 16) ∷ digitOf (b % 16) ∷ text) {high = b / 16} {low = b % 16} (omega arith)
-    (sym (digit-back (b / 16) (omega arith))) (sym (digit-back (b % 16) (omega arith)))
-    (rw (← byte-of (b / 16) (b % 16) (omega arith) (omega arith)) (rw (whole b))))
-  where
-    whole : (b : ℕ) → b / 16 * 16 + b % 16 ≡ b
-    whole b = omega arith

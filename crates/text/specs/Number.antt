@@ -1,9 +1,10 @@
 -- Decimal numbers in a text, from a place on.
 use mathlib.Core.Bool.{cond, _&&_}
 use mathlib.Core.List.{List, [], _∷_}
-use Prim.Native.Nat.{ℕ, _+_, _*_}
+use Prim.Native.Nat.{ℕ, _+_}
 use lib.Dec.{ltb, leb, eqb}
 use lib.ListN.{length, getD, drop}
+use Rattle.numbers.specs.Decimal.{value}
 use Rattle.text.specs.Octet.{digitValue}
 use Rattle.text.specs.declared.number.Place.{Place}
 use Rattle.text.specs.declared.number.Place.the-variants.{At, Nowhere}
@@ -21,15 +22,10 @@ abbrev pub leading : List ℕ → List ℕ
 leading [] = []
 leading (c ∷ text) = cond (ltb (digitValue c) 10) (c ∷ leading text) []
 
--- the number that digits say behind those of a, the first the most significant
-abbrev pub valueFrom : ℕ → List ℕ → ℕ
-valueFrom a [] = a
-valueFrom a (c ∷ cs) = valueFrom (a * 10 + digitValue c) cs
-
 -- at least one digit, and no number above the most
 abbrev pub numberOf : ℕ → ℕ → List ℕ → Number
 numberOf most at [] = NoNumber
-numberOf most at (c ∷ cs) = cond (leb (valueFrom 0 (c ∷ cs)) most) (Value (valueFrom 0 (c ∷ cs)) (at + length (c ∷ cs))) NoNumber
+numberOf most at (c ∷ cs) = cond (leb (value (c ∷ cs)) most) (Value (value (c ∷ cs)) (at + length (c ∷ cs))) NoNumber
 
 -- all digits from the place on
 unfoldable pub numberAt : ℕ → ℕ → List ℕ → Number

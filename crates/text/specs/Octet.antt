@@ -23,4 +23,5 @@ unfoldable pub octetOf : ℕ → ℕ → Octet
 octetOf high low = cond (ltb high 16 && ltb low 16) (Byte (high * 16 + low)) NoByte
 
 unfoldable pub octetAt : ℕ → List ℕ → Octet
-octetAt at text = cond (ltb (at + 1) (length text)) (octetOf (digitValue (getD text at 0)) (digitValue (getD text (at + 1) 0))) NoByte
+octetAt at text =
+    cond (ltb (at + 1) (length text)) (octetOf (digitValue (getD text at 0)) (digitValue (getD text (at + 1) 0))) NoByte

@@ -1,15 +1,23 @@
 -- The block that output is collected in, as bytes are put into it.
 use mathlib.Core.Path.{_≡_}
-use mathlib.Core.Bool.{true, cond}
-use mathlib.Core.List.{List, [], _∷_, _++_}
-use Prim.Native.Nat.{ℕ, zero, suc, _+_, _/_, _%_, _≤_}
+use mathlib.Core.Bool.{true, false, cond}
+use mathlib.Core.List.{List, [], _∷_}
+use Prim.Native.Nat.{ℕ, _+_, _≤_}
 use lib.Dec.{ltb}
 use lib.ListN.{length, set}
 use Rattle.text.specs.declared.output.Output.{Output}
 
+-- nothing is to be written yet
+abbrev pub noOutput : Output
+noOutput = record { len = 0; failed = false }
+
+-- how long the block is that bytes are put into
+abbrev pub blockLength : ℕ
+blockLength = 8192
+
 -- where the next byte stands: behind the others, or at the front once the block is full
 unfoldable pub nextPlace : ℕ → ℕ
-nextPlace len = cond (ltb len 8192) len 0
+nextPlace len = cond (ltb len blockLength) len 0
 
 -- how many bytes the block has once a text is put behind the first len, and what it holds
 abbrev pub lenAfter : List ℕ → ℕ → ℕ
@@ -25,20 +33,9 @@ pub record Put (text : List ℕ) (before after : Output) (entry exit : List ℕ)
   pub len : after .len ≡ lenAfter text (before .len)
   pub block : exit ≡ blockAfter text (before .len) entry
   pub failed : before .failed ≡ true → after .failed ≡ true
-  pub room : before .len + length text ≤ 8192 → after .failed ≡ before .failed
+  pub room : before .len + length text ≤ blockLength → after .failed ≡ before .failed
 
 -- the block is written, as far as it is filled
 pub record Written (before after : Output) : Type 0 where
   pub len : after .len ≡ 0
   pub failed : before .failed ≡ true → after .failed ≡ true
-
--- ---- numbers
-
--- the digits of n, the last k of them at most: those of n / 10, if there are any, and then n % 10
-abbrev pub digits : ℕ → ℕ → List ℕ
-digits zero n = []
-digits (suc k) n = cond (ltb n 10) ((48 + n) ∷ []) (digits k (n / 10) ++ ((48 + n % 10) ∷ []))
-
--- a decimal without leading zeros; no number n has more than n + 1 digits
-unfoldable pub decimal : ℕ → List ℕ
-decimal n = digits (suc n) n

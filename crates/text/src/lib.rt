@@ -1,4 +1,5 @@
-// Text as the programs read and write it: numbers, bytes as hexadecimal digits, lines, and output that is collected in a block.
+// Text as the programs read and write it: numbers, bytes as hexadecimal digits, lines, and output that is collected in
+// a block.
 mod line;
 mod number;
 mod octet;

@@ -89,8 +89,8 @@ pub fn parse_short(text: &[u8], at: usize) -> Short
 pub fn short_after(text: &[u8], at: usize, separator: u8) -> Short
     ensures { λ r. ⌜ r ≡ shortAfter separator at (now (text .entry)) ⌝ }
 {
-    let Place::At(start) = skip(text, at, separator) else {
+    let Place::At(digits) = skip(text, at, separator) else {
         return Short::NoShort;
     };
-    parse_short(text, start)
+    parse_short(text, digits)
 }

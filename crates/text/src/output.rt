@@ -1,14 +1,16 @@
-// Output, collected in a lent block and written in one piece: a write for each byte would cost more than what the programs do between.
-// That the blocks reach standard output in their order is tested, not proved: files mean nothing in a contract.
+// Output, collected in a lent block and written in one piece: a write for each byte would cost more than what the
+// programs do between. Bytes are put into a block of one length; a program that fills a block of another length by
+// itself has it written by `written`. That the blocks reach standard output in their order is tested, not proved: files
+// mean nothing in a contract.
 use crate::part::front;
 use libc::STDERR_FILENO;
 use libc::STDOUT_FILENO;
 ghost use mathlib.Core.Path.{_≡_};
-ghost use mathlib.Core.Bool.{false};
 ghost use mathlib.Core.List.{_∷_, []};
 ghost use Prim.Native.Nat.{_+_, _≤_};
 ghost use lib.ListN.{length};
-ghost use Rattle.text.specs.Output.{Put, Written, decimal};
+ghost use Rattle.numbers.specs.Decimal.{decimal};
+ghost use Rattle.text.specs.Output.{blockLength, noOutput, Put, Written};
 
 pub const BLOCK_LEN: usize = 8192;
 
@@ -21,7 +23,7 @@ pub struct Output {
 
 impl Output {
     pub fn new() -> Self
-        ensures { λ r. ⌜ (r .len ≡ 0) × (r .failed ≡ false) ⌝ }
+        ensures { λ r. ⌜ r ≡ noOutput ⌝ }
     {
         Output {
             len: 0,
@@ -64,7 +66,7 @@ impl Output {
     }
 
     fn put_run(self, block: &mut [u8; BLOCK_LEN], text: &[u8]) -> Self
-        requires { ⌜ self .len + length (now text) ≤ 8192 ⌝ }
+        requires { ⌜ self .len + length (now text) ≤ blockLength ⌝ }
         ensures { λ r. ⌜ Put (now (text .entry)) self r (now (block .entry)) (now (block .exit)) ⌝ }
     {
         let len = self.len;
@@ -95,8 +97,14 @@ impl Output {
         self.put_text(block, &digits[..count])
     }
 
-    // Writes the block as far as it is filled, unless a write failed before.
     pub fn flushed(self, block: &[u8; BLOCK_LEN]) -> Self
+        ensures { λ r. ⌜ Written self r ⌝ }
+    {
+        self.written(block)
+    }
+
+    // Writes a block of any length as far as it is filled, unless a write failed before.
+    pub fn written(self, block: &[u8]) -> Self
         ensures { λ r. ⌜ Written self r ⌝ }
     {
         if self.failed {

@@ -15,13 +15,24 @@ add-start : tie.Need-add-start
 add-start c = let s = c .before .before in omega (arith, right-size (s .args .width) (minus ∷ []), s .pre)
 
 put-spaces-requires : tie.Need-put-spaces-requires
-put-spaces-requires c κs = let s = c .before .before .before in (omega (arith, right-size (s .args .width) (minus ∷ []), s .pre), omega (arith, right-size (s .args .width) (minus ∷ []), s .pre))
+put-spaces-requires c κs = let s = c .before .before .before in (
+  omega (arith, right-size (s .args .width) (minus ∷ []), s .pre),
+  omega (arith, right-size (s .args .width) (minus ∷ []), s .pre),
+)
 
 slice-write-text : tie.Need-slice-write-text
-slice-write-text c = let s = c .before .before .before .before .before .before in omega (arith, right-size (s .args .width) (minus ∷ []), s .pre)
+slice-write-text c = let s = c .before .before .before .before .before .before in omega (
+  arith,
+  right-size (s .args .width) (minus ∷ []),
+  s .pre,
+)
 
 add-result : tie.Need-add-result
-add-result c = let s = c .before .before .before .before .before .before in omega (arith, right-size (s .args .width) (minus ∷ []), s .pre)
+add-result c = let s = c .before .before .before .before .before .before in omega (
+  arith,
+  right-size (s .args .width) (minus ∷ []),
+  s .pre,
+)
 
 same-length : tie.Need-same-length
 same-length c = search needs

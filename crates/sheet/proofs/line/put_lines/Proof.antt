@@ -1,14 +1,15 @@
 -- After k turns the lines of the first k rows are written.
 use mathlib.Core.Path.{_≡_, refl, _∙_, ap}
+use mathlib.Core.List.{List}
 use Prim.Native.Nat.{ℕ, _+_, _-_, _*_, _≤_, _<_}
 use native.Mathlib.Omega.{arith}
+use lib.IntN.{ℤ}
 use lib.ListN.{length, take, drop, length-take, length-drop}
 use denote.Ref.{now}
-use Rattle.sheet.specs.Parts.{sizeOf}
+use Rattle.sheet.specs.Parts.{RowFits}
 use Rattle.sheet.specs.Sheet.{linesOf}
-use Rattle.sheet.specs.Step.{put, lineLength}
+use Rattle.sheet.specs.Step.{put}
 use Rattle.sheet.proofs.Columns.{fits-take}
-use Rattle.sheet.proofs.Halves.{size-fits}
 use Rattle.sheet.proofs.Listing.{Listed, listed-none, listed-room, listed-next}
 use Rattle.sheet.proofs.line.put_lines.Statement.{statement}
 use Rattle.sheet.proofs.line.put_lines.Tie as tie
@@ -19,15 +20,18 @@ Inv-loop text₀ number rows count at₀ k₀ text at k = (k ≤ count) × Liste
 abbrev μ-loop : tie.MeasureT-loop
 μ-loop text₀ number rows count at₀ k₀ text at k = count - k
 
--- the line of row k takes what a line takes
-size : (s : tie.Start Inv-loop μ-loop) (k : ℕ) → k < s .args .count
-    → sizeOf (s .args .number + (k + 1)) (take (k * 8 + 8 - k * 8) (drop (k * 8) (now (s .args .rows)))) ≡ lineLength
-size s k h =
-    size-fits (s .args .number + (k + 1)) (take (k * 8 + 8 - k * 8) (drop (k * 8) (now (s .args .rows))))
-    (fits-take (k * 8 + 8 - k * 8) (drop (k * 8) (now (s .args .rows))) (omega arith) (s .pre .1 k h))
+-- the row that is lent
+abbrev row : tie.Start Inv-loop μ-loop → ℕ → List ℤ
+row s k = take (k * 8 + 8 - k * 8) (drop (k * 8) (now (s .args .rows)))
+
+fits : (s : tie.Start Inv-loop μ-loop) (k : ℕ) → k < s .args .count → RowFits (row s k)
+fits s k h = fits-take (k * 8 + 8 - k * 8) (drop (k * 8) (now (s .args .rows))) (omega arith) (s .pre .1 k h)
 
 loop-holds : tie.Need-loop-holds Inv-loop μ-loop
-loop-holds c = let s = c .before in (omega arith, listed-none (s .args .number) (now (s .args .rows)) (now (s .args .text)))
+loop-holds c = let s = c .before in (
+  omega arith,
+  listed-none (s .args .number) (now (s .args .rows)) (now (s .args .text)),
+)
 
 mul-from : tie.Need-mul-from Inv-loop μ-loop
 mul-from c = omega (arith, c .before .before .before .pre .0)
@@ -57,8 +61,9 @@ put-line-requires : tie.Need-put-line-requires Inv-loop μ-loop
 put-line-requires c κs =
     let h = c .before .before .before in
     let s = c .before .before .before .before .before in
-    let room = listed-room (s .args .number) (now (s .args .rows)) (now (s .args .text)) (h .loop .text) (h .loop .at) (h .loop .k) (s .args .count) (h .loop .inv .1) (omega arith) (s .pre .2) in
-    (simp (length-take, length-drop) (omega (arith, s .pre .0)), omega (arith, size s (h .loop .k) (omega arith), room))
+    let room = listed-room (s .args .number) (now (s .args .rows)) (now (s .args .text)) (h .loop .text) (h .loop .at)
+    (h .loop .k) (s .args .count) (h .loop .inv .1) (omega arith) (s .pre .2) in
+    (simp (length-take, length-drop) (omega (arith, s .pre .0)), fits s (h .loop .k) (omega arith), room)
 
 add-k : tie.Need-add-k Inv-loop μ-loop
 add-k c = omega (arith, c .before .before .before .before .before .before .before .before .pre .0)
@@ -72,8 +77,10 @@ loop-again c =
     let s = c .before .before .before .before .before .before .before .before in
     let put = c .before .before .put-line in (
       omega arith,
-      listed-next (s .args .number) (now (s .args .rows)) (now (s .args .text)) (h .loop .text) (h .loop .at) (h .loop .k) (s .args .count) (h .loop .inv .1) (omega arith) (s .pre .2)
-          (s .args .number + (h .loop .k + 1)) (put .last .0) (put .result) refl (omega arith) (put .ensures .0 ∙ size s (h .loop .k) (omega arith)) (put .ensures .1 .0) (put .ensures .1 .1),
+      listed-next (s .args .number) (now (s .args .rows)) (now (s .args .text)) (h .loop .text) (h .loop .at)
+          (h .loop .k) (s .args .count) (h .loop .inv .1) (omega arith) (s .pre .2)
+          (s .args .number + (h .loop .k + 1)) (put .last .0) (put .result) refl (omega arith) (put .ensures .0)
+          (put .ensures .1 .0) (put .ensures .1 .1),
     )
 
 same-length : tie.Need-same-length Inv-loop μ-loop

@@ -19,7 +19,8 @@ sub-at : tie.Need-sub-at Inv-loop μ-loop
 sub-at c =
     let h = c .before in
     let s = h .before in
-    spelling-room (s .args .n) (s .args .end) (now (s .args .text)) (s .pre .0) (s .pre .1) (h .loop .text) (h .loop .at) (h .loop .rest) (h .loop .inv)
+    spelling-room (s .args .n) (s .args .end) (now (s .args .text)) (s .pre .0) (s .pre .1) (h .loop .text)
+    (h .loop .at) (h .loop .rest) (h .loop .inv)
 
 cast-text : tie.Need-cast-text Inv-loop μ-loop
 cast-text c = omega arith
@@ -33,9 +34,12 @@ slice-write-text c =
     let s = h .before in
     omega (
       arith,
-      spelling-room (s .args .n) (s .args .end) (now (s .args .text)) (s .pre .0) (s .pre .1) (h .loop .text) (h .loop .at) (h .loop .rest) (h .loop .inv),
-      spelling-inside (s .args .n) (s .args .end) (now (s .args .text)) (s .pre .0) (s .pre .1) (h .loop .text) (h .loop .at) (h .loop .rest) (h .loop .inv),
-      spelling-length (s .args .n) (s .args .end) (now (s .args .text)) (s .pre .0) (s .pre .1) (h .loop .text) (h .loop .at) (h .loop .rest) (h .loop .inv),
+      spelling-room (s .args .n) (s .args .end) (now (s .args .text)) (s .pre .0) (s .pre .1) (h .loop .text)
+          (h .loop .at) (h .loop .rest) (h .loop .inv),
+      spelling-inside (s .args .n) (s .args .end) (now (s .args .text)) (s .pre .0) (s .pre .1) (h .loop .text)
+          (h .loop .at) (h .loop .rest) (h .loop .inv),
+      spelling-length (s .args .n) (s .args .end) (now (s .args .text)) (s .pre .0) (s .pre .1) (h .loop .text)
+          (h .loop .at) (h .loop .rest) (h .loop .inv),
     )
 
 loop-less : tie.Need-loop-less Inv-loop μ-loop
@@ -45,13 +49,15 @@ loop-again : tie.Need-loop-again Inv-loop μ-loop
 loop-again c =
     let h = c .before in
     let s = h .before in
-    spelling-next (s .args .n) (s .args .end) (now (s .args .text)) (s .pre .0) (s .pre .1) (h .loop .text) (h .loop .at) (h .loop .rest) (h .loop .inv) (omega arith)
+    spelling-next (s .args .n) (s .args .end) (now (s .args .text)) (s .pre .0) (s .pre .1) (h .loop .text)
+    (h .loop .at) (h .loop .rest) (h .loop .inv) (omega arith)
 
 sub-at-2 : tie.Need-sub-at-2 Inv-loop μ-loop
 sub-at-2 c =
     let h = c .before in
     let s = h .before in
-    spelling-room (s .args .n) (s .args .end) (now (s .args .text)) (s .pre .0) (s .pre .1) (h .loop .text) (h .loop .at) (h .loop .rest) (h .loop .inv)
+    spelling-room (s .args .n) (s .args .end) (now (s .args .text)) (s .pre .0) (s .pre .1) (h .loop .text)
+    (h .loop .at) (h .loop .rest) (h .loop .inv)
 
 cast-text-2 : tie.Need-cast-text-2 Inv-loop μ-loop
 cast-text-2 c = omega arith
@@ -65,22 +71,27 @@ slice-write-text-2 c =
     let s = h .before in
     omega (
       arith,
-      spelling-room (s .args .n) (s .args .end) (now (s .args .text)) (s .pre .0) (s .pre .1) (h .loop .text) (h .loop .at) (h .loop .rest) (h .loop .inv),
-      spelling-inside (s .args .n) (s .args .end) (now (s .args .text)) (s .pre .0) (s .pre .1) (h .loop .text) (h .loop .at) (h .loop .rest) (h .loop .inv),
-      spelling-length (s .args .n) (s .args .end) (now (s .args .text)) (s .pre .0) (s .pre .1) (h .loop .text) (h .loop .at) (h .loop .rest) (h .loop .inv),
+      spelling-room (s .args .n) (s .args .end) (now (s .args .text)) (s .pre .0) (s .pre .1) (h .loop .text)
+          (h .loop .at) (h .loop .rest) (h .loop .inv),
+      spelling-inside (s .args .n) (s .args .end) (now (s .args .text)) (s .pre .0) (s .pre .1) (h .loop .text)
+          (h .loop .at) (h .loop .rest) (h .loop .inv),
+      spelling-length (s .args .n) (s .args .end) (now (s .args .text)) (s .pre .0) (s .pre .1) (h .loop .text)
+          (h .loop .at) (h .loop .rest) (h .loop .inv),
     )
 
 same-length : tie.Need-same-length Inv-loop μ-loop
 same-length c =
     let h = c .before in
     let s = h .before in
-    simp length-set (spelling-length (s .args .n) (s .args .end) (now (s .args .text)) (s .pre .0) (s .pre .1) (h .loop .text) (h .loop .at) (h .loop .rest) (h .loop .inv))
+    simp length-set (spelling-length (s .args .n) (s .args .end) (now (s .args .text)) (s .pre .0) (s .pre .1)
+    (h .loop .text) (h .loop .at) (h .loop .rest) (h .loop .inv))
 
 returns : tie.Need-returns Inv-loop μ-loop
 returns c =
     let h = c .before in
     let s = h .before in
-    spelling-done (s .args .n) (s .args .end) (now (s .args .text)) (s .pre .0) (s .pre .1) (h .loop .text) (h .loop .at) (h .loop .rest) (h .loop .inv) (omega arith)
+    spelling-done (s .args .n) (s .args .end) (now (s .args .text)) (s .pre .0) (s .pre .1) (h .loop .text)
+    (h .loop .at) (h .loop .rest) (h .loop .inv) (omega arith)
 
 pub put-digits-spec : {M : Type 1} → statement M
 put-digits-spec =

@@ -11,7 +11,8 @@ use Rattle.sheet.proofs.number.put_spaces.Statement.{statement}
 use Rattle.sheet.proofs.number.put_spaces.Tie as tie
 
 abbrev Inv-loop : tie.InvT-loop
-Inv-loop text₀ from to i₀ text i = (from ≤ i) × (i ≤ to) × (text ≡ put from (replicate (i - from) space) text₀) × (length text ≡ length text₀)
+Inv-loop text₀ from to i₀ text i =
+    (from ≤ i) × (i ≤ to) × (text ≡ put from (replicate (i - from) space) text₀) × (length text ≡ length text₀)
 
 abbrev μ-loop : tie.MeasureT-loop
 μ-loop text₀ from to i₀ text i = to - i
@@ -33,7 +34,8 @@ loop-again c =
     let h = c .before in (
       omega arith,
       omega arith,
-      spaces-next (h .before .args .from) (h .loop .i) (h .loop .text) (now (h .before .args .text)) (h .loop .inv .0) (omega arith) (h .loop .inv .2),
+      spaces-next (h .before .args .from) (h .loop .i) (h .loop .text) (now (h .before .args .text)) (h .loop .inv .0)
+          (omega arith) (h .loop .inv .2),
       simp length-set (omega arith),
     )
 

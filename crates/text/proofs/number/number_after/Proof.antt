@@ -15,7 +15,9 @@ enum-told : tie.Need-enum-told
 enum-told c = search needs
 
 returns : tie.Need-returns
-returns c = let s = c .before .before .before .before .args in number-nowhere (s .separator) (s .at) (now (s .text)) (c .before .before .skip .ensures) (s .most) (c .enum-told .given .1)
+returns c =
+    let s = c .before .before .before .before .args in number-nowhere (s .separator) (s .at) (now (s .text))
+    (c .before .before .skip .ensures) (s .most) (c .enum-told .given .1)
 
 parse-number-requires : tie.Need-parse-number-requires
 parse-number-requires c κs = search needs
@@ -24,7 +26,8 @@ returns-2 : tie.Need-returns-2
 returns-2 c =
     let s = c .before .before .before .before .before .before .args in
     let start = c .before .before in
-    number-there (s .separator) (s .at) (now (s .text)) (start .before .before .skip .ensures) (s .most) (start .start .given .1) (c .parse-number .ensures)
+    number-there (s .separator) (s .at) (now (s .text)) (start .before .before .skip .ensures) (s .most)
+    (start .start .given .1) (c .parse-number .ensures)
 
 pub number-after-spec : {M : Type 1} → statement M
 number-after-spec =

@@ -19,11 +19,13 @@ abbrev μ-loop : tie.MeasureT-loop
 μ-loop text at most sum₀ i₀ sum i = length text - i
 
 -- the loop is left where no digit follows
-over : (c : tie.Left-loop Inv-loop μ-loop) → leading (drop (c .before .loop .i) (now (c .before .before .before .args .text))) ≡ []
+over : (c : tie.Left-loop Inv-loop μ-loop)
+    → leading (drop (c .before .loop .i) (now (c .before .before .before .args .text))) ≡ []
 over c =
     let i = c .before .loop .i in
     let text = now (c .before .before .before .args .text) in
-    ⊎-elim (λ w. leading-end i text (w .left)) (λ w. leading-other i text (w .0 .taken) (omega (arith, w .2 .ensures, w .3 .taken))) (c .loop-test .came)
+    ⊎-elim (λ w. leading-end i text (w .left))
+    (λ w. leading-other i text (w .0 .taken) (omega (arith, w .2 .ensures, w .3 .taken))) (c .loop-test .came)
 
 loop-holds : tie.Need-loop-holds Inv-loop μ-loop
 loop-holds c = let s = c .before .args in reading-none (s .most) (s .at) (now (s .text))
@@ -41,7 +43,8 @@ returns : tie.Need-returns Inv-loop μ-loop
 returns c =
     let s = c .before .before .before .before .before .before .before .args in
     let h = c .before .before .before .before .before .loop in
-    reading-above (s .most) (s .at) (now (s .text)) (h .sum) (h .i) (h .inv) (omega arith) (c .before .before .digit-value .ensures) (omega arith) (omega arith)
+    reading-above (s .most) (s .at) (now (s .text)) (h .sum) (h .i) (h .inv) (omega arith)
+    (c .before .before .digit-value .ensures) (omega arith) (omega arith)
 
 mul-tens : tie.Need-mul-tens Inv-loop μ-loop
 mul-tens c = omega arith
@@ -53,7 +56,8 @@ returns-2 : tie.Need-returns-2 Inv-loop μ-loop
 returns-2 c =
     let s = c .before .before .before .before .before .before .before .before .args in
     let h = c .before .before .before .before .before .before .loop in
-    reading-above (s .most) (s .at) (now (s .text)) (h .sum) (h .i) (h .inv) (omega arith) (c .before .before .before .digit-value .ensures) (omega arith) (omega arith)
+    reading-above (s .most) (s .at) (now (s .text)) (h .sum) (h .i) (h .inv) (omega arith)
+    (c .before .before .before .digit-value .ensures) (omega arith) (omega arith)
 
 add-sum : tie.Need-add-sum Inv-loop μ-loop
 add-sum c = search needs
@@ -68,7 +72,8 @@ loop-again : tie.Need-loop-again Inv-loop μ-loop
 loop-again c =
     let s = c .before .before .before .before .before .before .before .before .args in
     let h = c .before .before .before .before .before .before .loop in
-    reading-next (s .most) (s .at) (now (s .text)) (h .sum) (h .i) (h .inv) (omega arith) (c .before .before .before .digit-value .ensures) (omega arith) (omega arith)
+    reading-next (s .most) (s .at) (now (s .text)) (h .sum) (h .i) (h .inv) (omega arith)
+    (c .before .before .before .digit-value .ensures) (omega arith) (omega arith)
 
 returns-3 : tie.Need-returns-3 Inv-loop μ-loop
 returns-3 c =

@@ -17,13 +17,21 @@ enum-told : tie.Need-enum-told
 enum-told c = search needs
 
 returns : tie.Need-returns
-returns c = let s = c .before .before .before .before .args in no-short (s .at) (now (s .text)) (c .before .before .parse-number .ensures) (c .enum-told .given .1)
+returns c =
+    let s = c .before .before .before .before .args in no-short (s .at) (now (s .text))
+    (c .before .before .parse-number .ensures) (c .enum-told .given .1)
 
 cast-t6 : tie.Need-cast-t6
-cast-t6 c = let s = c .before .before .before .before .before .args in omega (arith, number-read (s .at) shortMost (now (s .text)) (c .before .value .given .1) (c .before .before .before .parse-number .ensures) .within)
+cast-t6 c = let s = c .before .before .before .before .before .args in omega (
+  arith,
+  number-read (s .at) shortMost (now (s .text)) (c .before .value .given .1)
+      (c .before .before .before .parse-number .ensures) .within,
+)
 
 returns-2 : tie.Need-returns-2
-returns-2 c = let s = c .before .before .before .before .before .args in short-is (s .at) (now (s .text)) (c .before .before .before .parse-number .ensures) (c .before .value .given .1)
+returns-2 c =
+    let s = c .before .before .before .before .before .args in short-is (s .at) (now (s .text))
+    (c .before .before .before .parse-number .ensures) (c .before .value .given .1)
 
 pub parse-short-spec : {M : Type 1} → statement M
 parse-short-spec =

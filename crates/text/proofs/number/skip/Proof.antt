@@ -15,7 +15,9 @@ add-t8 : tie.Need-add-t8
 add-t8 c = search needs
 
 returns-2 : tie.Need-returns-2
-returns-2 c = let s = c .before .before .before .args in place-here (s .byte) (s .at) (now (s .text)) (c .before .before .if1 .left) (c .if2 .taken)
+returns-2 c =
+    let s = c .before .before .before .args in place-here (s .byte) (s .at) (now (s .text))
+    (c .before .before .if1 .left) (c .if2 .taken)
 
 returns-3 : tie.Need-returns-3
 returns-3 c = let s = c .before .before .before .args in place-other (s .byte) (s .at) (now (s .text)) (c .if2 .left)

@@ -21,16 +21,24 @@ returns-3 : tie.Need-returns-3
 returns-3 c = lower-value (c .before .before .before .before .before .before .args .c) (omega arith) (omega arith)
 
 returns-4 : tie.Need-returns-4
-returns-4 c = let x = c .before .args .c in no-value x (below 48 57 x (omega arith)) (below 65 70 x (omega arith)) (below 97 102 x (omega arith))
+returns-4 c =
+    let x = c .before .args .c in no-value x (below 48 57 x (omega arith)) (below 65 70 x (omega arith))
+    (below 97 102 x (omega arith))
 
 returns-5 : tie.Need-returns-5
-returns-5 c = let x = c .before .before .before .args .c in no-value x (above 48 57 x (omega arith)) (below 65 70 x (omega arith)) (below 97 102 x (omega arith))
+returns-5 c =
+    let x = c .before .before .before .args .c in no-value x (above 48 57 x (omega arith))
+    (below 65 70 x (omega arith)) (below 97 102 x (omega arith))
 
 returns-6 : tie.Need-returns-6
-returns-6 c = let x = c .before .before .before .before .before .args .c in no-value x (above 48 57 x (omega arith)) (above 65 70 x (omega arith)) (below 97 102 x (omega arith))
+returns-6 c =
+    let x = c .before .before .before .before .before .args .c in no-value x (above 48 57 x (omega arith))
+    (above 65 70 x (omega arith)) (below 97 102 x (omega arith))
 
 returns-7 : tie.Need-returns-7
-returns-7 c = let x = c .before .before .before .before .before .before .args .c in no-value x (above 48 57 x (omega arith)) (above 65 70 x (omega arith)) (above 97 102 x (omega arith))
+returns-7 c =
+    let x = c .before .before .before .before .before .before .args .c in no-value x (above 48 57 x (omega arith))
+    (above 65 70 x (omega arith)) (above 97 102 x (omega arith))
 
 pub digit-value-spec : {M : Type 1} → statement M
 digit-value-spec =

@@ -32,14 +32,16 @@ returns-3 c =
     let s = c .before .before .before .before .before .before .before .before .args in
     let high = c .before .before .before .digit-value in
     let low = c .before .digit-value2 in
-    octet-by (s .at) (now (s .text)) (omega arith) (high .ensures) (low .ensures) (no-high (high .result) (low .result) (omega arith))
+    octet-by (s .at) (now (s .text)) (omega arith) (high .ensures) (low .ensures)
+    (no-high (high .result) (low .result) (omega arith))
 
 returns-4 : tie.Need-returns-4
 returns-4 c =
     let s = c .before .before .before .before .before .before .before .before .before .args in
     let high = c .before .before .before .before .digit-value in
     let low = c .before .before .digit-value2 in
-    octet-by (s .at) (now (s .text)) (omega arith) (high .ensures) (low .ensures) (no-low (high .result) (low .result) (omega arith))
+    octet-by (s .at) (now (s .text)) (omega arith) (high .ensures) (low .ensures)
+    (no-low (high .result) (low .result) (omega arith))
 
 mul-t9 : tie.Need-mul-t9
 mul-t9 c = search needs
@@ -52,7 +54,8 @@ returns-5 c =
     let s = c .before .before .before .before .before .before .before .before .before .args in
     let high = c .before .before .before .before .digit-value in
     let low = c .before .before .digit-value2 in
-    octet-by (s .at) (now (s .text)) (omega arith) (high .ensures) (low .ensures) (byte-of (high .result) (low .result) (omega arith) (omega arith))
+    octet-by (s .at) (now (s .text)) (omega arith) (high .ensures) (low .ensures)
+    (byte-of (high .result) (low .result) (omega arith) (omega arith))
 
 pub octet-at-spec : {M : Type 1} → statement M
 octet-at-spec =

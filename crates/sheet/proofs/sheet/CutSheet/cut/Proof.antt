@@ -1,16 +1,21 @@
 -- By the number that would turn the push down, then by the text, then by the push's answer.
 use mathlib.Core.Path.{_≡_, sym, _∙_, ap, subst}
 use mathlib.Core.Bool.{true, false}
-use Prim.Native.Nat.{_+_, _*_, _/_, _≤_}
+use mathlib.Core.List.{List}
+use Prim.Native.Nat.{ℕ, _+_, _*_, _/_, _≤_}
 use native.Mathlib.Nat.{not-suc-le-zero}
 use native.Mathlib.Omega.{arith}
+use lib.IntN.{ℤ}
 use lib.ListN.{length}
 use borrow.Author.Tests.{le-ltb}
 use denote.Ref.{now}
-use Rattle.splitter.specs.Answer.{pushAnswer, refusalNumber}
-use Rattle.splitter.specs.Push.{Event, event, pushNumber, push}
+use Rattle.splitter.specs.Bounds.{frameLeast}
+use Rattle.splitter.specs.Answer.{callNumber, pushAnswer}
+use Rattle.splitter.specs.Push.{Event, event, outcome, pushNumber, push}
 use Rattle.splitter.specs.Steps.{limitsNumber}
+use Rattle.splitter.specs.declared.answer.PushAnswer.{PushAnswer}
 use Rattle.splitter.specs.declared.timing.Pts.{Pts}
+use Rattle.splitter.proofs.Answers.{outcome-fields}
 use Rattle.splitter.proofs.Clocks.{Fine, fine}
 use Rattle.splitter.proofs.Entering.{none-fine}
 use Rattle.splitter.proofs.Laws.{rows-fit, push-rows-length}
@@ -22,55 +27,96 @@ use borrow.Author.Needs.{needs}
 use Rattle.sheet.proofs.sheet.CutSheet.cut.Statement.{statement}
 use Rattle.sheet.proofs.sheet.CutSheet.cut.Tie as tie
 
+-- ---- the states by name
+
+abbrev start : tie.After-pts → tie.Start
+start c = c .before .before .before .before .before .before
+
+abbrev asked : tie.After-enum-told → tie.After-refusal
+asked c = c .before .before
+
+abbrev loose : tie.After-push → tie.Else1
+loose p = p .before .before .before .before
+
+abbrev pushed : tie.After-after → tie.After-push
+pushed c = c .before .before .before .before .before .before
+
+-- no number turned the push down
+abbrev told : tie.After-push → tie.After-enum-told
+told p = loose p .before .before
+
+abbrev begin : tie.After-push → tie.Start
+begin p = start (asked (told p) .before)
+
+-- the three answers
+abbrev turned : tie.After-answer → tie.After-push
+turned c = pushed (c .before .before)
+
+abbrev idle : tie.After-enum-told2 → tie.After-push
+idle c = pushed (c .before .before)
+
+abbrev taken : tie.After-answer2 → tie.After-push
+taken c = pushed (c .before .before)
+
+-- the lines of the last two
+abbrev idly : tie.After-with-lines → tie.After-enum-told2
+idly c = c .before .before .before
+
+abbrev lining : tie.After-with-lines-arg4 → tie.After-answer2
+lining c = c .before .before .before
+
+-- ---- what is known
+
 abbrev lentOf : tie.Start → Lent
 lentOf s = lent (now (s .args .pending)) (now (s .args .out)) (now (s .args .rows)) (now (s .args .text))
 
 abbrev eventAt : tie.Start → Pts → Event
 eventAt s t = event (now (s .args .payload)) t (now (s .args .pending)) (now (s .args .out)) (now (s .args .rows))
 
--- ---- no number turns the push down
-
-abbrev first : tie.After-enum-told → tie.Start
-first c = c .before .before .before .before .before .before .before .before .before
-
 none : (c : tie.After-enum-told)
-    → pushNumber (first c .args .self .splitter) (length (now (first c .args .payload))) (c .before .before .before .pts .result)
-    (length (now (first c .args .pending))) (length (now (first c .args .out))) (length (now (first c .args .rows))) ≡ 0
-none c = sym (c .before .before .refusal .ensures) ∙ ap limitsNumber (c .enum-told .given .1)
+    → pushNumber (start (asked c .before) .args .self .splitter)
+    (length (now (start (asked c .before) .args .payload))) (asked c .before .pts .result)
+    (length (now (start (asked c .before) .args .pending))) (length (now (start (asked c .before) .args .out)))
+    (length (now (start (asked c .before) .args .rows))) ≡ 0
+none c = sym (asked c .refusal .ensures) ∙ ap limitsNumber (c .enum-told .given .1)
 
 ok : (c : tie.After-enum-told)
-    → Fine (first c .args .self .splitter) (length (now (first c .args .payload)))
-    (length (now (first c .args .pending))) (length (now (first c .args .out))) (length (now (first c .args .rows)))
+    → Fine (start (asked c .before) .args .self .splitter) (length (now (start (asked c .before) .args .payload)))
+    (length (now (start (asked c .before) .args .pending))) (length (now (start (asked c .before) .args .out)))
+    (length (now (start (asked c .before) .args .rows)))
 ok c =
-    let s = first c .args in
-    let t = c .before .before .before .pts .result in
-    fine (s .self .splitter) (length (now (s .payload))) t (length (now (s .pending))) (length (now (s .out))) (length (now (s .rows)))
-    (none-fine (s .self .splitter) (length (now (s .payload))) t (length (now (s .pending))) (length (now (s .out))) (length (now (s .rows))) (none c))
-
--- ---- what the push gave
-
-abbrev begin : tie.After-push → tie.Start
-begin p = p .before .before .before .before .before .before .before .before .before .before .before .before .before .before .before
+    let s = start (asked c .before) .args in
+    let t = asked c .before .pts .result in
+    fine (s .self .splitter) (length (now (s .payload))) t (length (now (s .pending))) (length (now (s .out)))
+    (length (now (s .rows)))
+    (none-fine (s .self .splitter) (length (now (s .payload))) t (length (now (s .pending))) (length (now (s .out)))
+    (length (now (s .rows))) (none c))
 
 -- the text is not tight
-loose : (p : tie.After-push)
-    → lineLength * ((begin p .args .self .splitter .pending + length (now (begin p .args .payload))) / 7) ≤ length (now (begin p .args .text))
-loose p = omega (arith, p .before .before .before .before .if1 .left, p .before .before .before .before .before .pending-bytes .ensures)
+room : (p : tie.After-push)
+    → lineLength * ((begin p .args .self .splitter .pending + length (now (begin p .args .payload))) / frameLeast) ≤
+    length (now (begin p .args .text))
+room p = omega (arith, loose p .if1 .left, loose p .before .pending-bytes .ensures)
 
-answer-is : (p : tie.After-push) → pushAnswer (p .push .result .answer) ≡ (pushOf (begin p .args .self) (now (begin p .args .payload)) (lentOf (begin p))) .answer
-answer-is p = p .push .ensures .0 ∙ ap (λ (t : Pts). push (begin p .args .self .splitter) (eventAt (begin p) t) .answer) (p .before .before .before .before .before .before .before .before .before .pts .ensures)
+-- what the push left in the lent buffers
+abbrev pend : tie.After-push → List ℕ
+pend p = p .push .last .1 .1 .1 .0
 
-state-is : (p : tie.After-push) → p .push .result .splitter ≡ (pushOf (begin p .args .self) (now (begin p .args .payload)) (lentOf (begin p))) .state
-state-is p = p .push .ensures .1 .0 ∙ ap (λ (t : Pts). push (begin p .args .self .splitter) (eventAt (begin p) t) .state) (p .before .before .before .before .before .before .before .before .before .pts .ensures)
+abbrev out : tie.After-push → List ℕ
+out p = p .push .last .1 .1 .1 .1 .0
 
-pend-is : (p : tie.After-push) → p .push .last .1 .1 .1 .0 ≡ (pushOf (begin p .args .self) (now (begin p .args .payload)) (lentOf (begin p))) .pend
-pend-is p = p .push .ensures .1 .1 .0 ∙ ap (λ (t : Pts). push (begin p .args .self .splitter) (eventAt (begin p) t) .pend) (p .before .before .before .before .before .before .before .before .before .pts .ensures)
+abbrev rows : tie.After-push → List ℤ
+rows p = p .push .last .1 .1 .1 .1 .1 .0
 
-out-is : (p : tie.After-push) → p .push .last .1 .1 .1 .1 .0 ≡ (pushOf (begin p .args .self) (now (begin p .args .payload)) (lentOf (begin p))) .out
-out-is p = p .push .ensures .1 .1 .1 .0 ∙ ap (λ (t : Pts). push (begin p .args .self .splitter) (eventAt (begin p) t) .out) (p .before .before .before .before .before .before .before .before .before .pts .ensures)
-
-rows-are : (p : tie.After-push) → p .push .last .1 .1 .1 .1 .1 .0 ≡ (pushOf (begin p .args .self) (now (begin p .args .payload)) (lentOf (begin p))) .rows
-rows-are p = p .push .ensures .1 .1 .1 .1 ∙ ap (λ (t : Pts). push (begin p .args .self .splitter) (eventAt (begin p) t) .rows) (p .before .before .before .before .before .before .before .before .before .pts .ensures)
+-- what the push gave, by its answer
+gave : (p : tie.After-push) (a : PushAnswer) → p .push .result .answer ≡ a
+    → outcome (pushAnswer a) (p .push .result .splitter) (pend p) (out p) (rows p) ≡ pushOf (begin p .args .self)
+    (now (begin p .args .payload)) (lentOf (begin p))
+gave p a e =
+    ap (λ (x : PushAnswer). outcome (pushAnswer x) (p .push .result .splitter) (pend p) (out p) (rows p)) (sym e)
+    ∙ p .push .ensures
+    ∙ ap (λ (t : Pts). push (begin p .args .self .splitter) (eventAt (begin p) t))
+    (asked (told p) .before .pts .ensures)
 
 -- ---- the needs
 
@@ -88,11 +134,13 @@ refused-requires c κs = search needs
 
 returns : tie.Need-returns
 returns c =
-    let q = c .before .before .before .before in
-    let s = q .before .before .before .before .before .before .before in
-    let g = c .before .before .limits .given in
-    step-numbered (s .args .self) (now (s .args .payload)) (lentOf s) (q .before .pts .result) (q .before .pts .ensures) (g .0 .0)
-    (sym (ap limitsNumber (g .1)) ∙ q .refusal .ensures) (sheetAnswer (c .refused .result .answer)) (c .refused .result .sheet) (c .refused .ensures .0) (c .refused .ensures .1)
+    let g = c .before .before in
+    let q = g .before .before in
+    let s = start (q .before) in
+    step-numbered (s .args .self) (now (s .args .payload)) (lentOf s) (q .before .pts .result)
+    (q .before .pts .ensures) (g .limits .given .0 .0)
+    (sym (ap limitsNumber (g .limits .given .1)) ∙ q .refusal .ensures) (sheetAnswer (c .refused .result .answer))
+    (c .refused .result .sheet) (c .refused .ensures .0) (c .refused .ensures .1)
 
 enum-told : tie.Need-enum-told
 enum-told c = search needs
@@ -111,11 +159,13 @@ refused-requires-2 c κs = search needs
 
 returns-2 : tie.Need-returns-2
 returns-2 c =
-    let told = c .before .before .before in
-    let s = first told in
-    step-tight (s .args .self) (now (s .args .payload)) (lentOf s) (told .before .before .before .pts .result) (told .before .before .before .pts .ensures) (none told)
-    (omega (arith, c .before .if1 .taken, c .before .before .pending-bytes .ensures))
-    (sheetAnswer (c .refused2 .result .answer)) (c .refused2 .result .sheet) (c .refused2 .ensures .0) (c .refused2 .ensures .1)
+    let m = c .before .before in
+    let q = asked (m .before) .before in
+    let s = start q in
+    step-tight (s .args .self) (now (s .args .payload)) (lentOf s) (q .pts .result) (q .pts .ensures) (none (m .before))
+    (omega (arith, c .before .if1 .taken, m .pending-bytes .ensures))
+    (sheetAnswer (c .refused2 .result .answer)) (c .refused2 .result .sheet) (c .refused2 .ensures .0)
+    (c .refused2 .ensures .1)
 
 push-requires : tie.Need-push-requires
 push-requires c κs = search needs
@@ -137,15 +187,26 @@ enum-known-answer-2 c = search needs
 
 with-lines-requires-2 : tie.Need-with-lines-requires-2
 with-lines-requires-2 c κs =
-    let p = c .before .before .before .before .before .before .before .before .before .before .before in
+    let d = lining c in
+    let p = taken d in
     let s = begin p in
-    let written = c .before .before .before .answer2 .given .0 .0 in
-    let e = eventAt s (p .before .before .before .before .before .before .before .before .before .pts .result) in
-    let a = sym (p .push .ensures .0) ∙ ap pushAnswer (c .before .before .before .answer2 .given .1) in
-    let rows = p .push .ensures .1 .1 .1 .1 in (
-      omega (arith, rows-fit (s .args .self .splitter) e true (written .rows) (written .bytes) a, ap length rows, push-rows-length (s .args .self .splitter) e),
-      subst (RowsFit (written .rows)) (sym rows) (push-rows-fit (s .args .self .splitter) e true (written .rows) (written .bytes) a),
-      omega (arith, push-lines-room (s .args .self .splitter) e true (written .rows) (written .bytes) a (length (now (s .args .text))) (le-ltb _ _ (loose p))),
+    let written = d .answer2 .given .0 .0 in
+    let e = eventAt s (asked (told p) .before .pts .result) in
+    let f = outcome-fields (p .push .ensures) in
+    let a = sym (f .0) ∙ ap pushAnswer (d .answer2 .given .1) in (
+      omega (
+        arith,
+        rows-fit (s .args .self .splitter) e true (written .rows) (written .bytes) a,
+        ap length (f .4),
+        push-rows-length (s .args .self .splitter) e,
+      ),
+      subst (RowsFit (written .rows)) (sym (f .4))
+          (push-rows-fit (s .args .self .splitter) e true (written .rows) (written .bytes) a),
+      omega (
+        arith,
+        push-lines-room (s .args .self .splitter) e true (written .rows) (written .bytes) a
+            (length (now (s .args .text))) (le-ltb _ _ (room p)),
+      ),
     )
 
 same-length : tie.Need-same-length
@@ -159,12 +220,14 @@ same-length-3 c = search needs
 
 returns-3 : tie.Need-returns-3
 returns-3 c =
-    let p = c .before .before .before .before .before .before .before .before .before .before in
+    let d = c .before .before in
+    let p = turned d in
     let s = begin p in
-    let g = c .before .before .answer .given in
-    step-turned (s .args .self) (now (s .args .payload)) (lentOf s) (p .push .last .1 .1 .1 .0) (p .push .last .1 .1 .1 .1 .0) (p .push .last .1 .1 .1 .1 .1 .0)
-    (pend-is p) (out-is p) (rows-are p) (refusalNumber (g .0 .0)) (sym (ap pushAnswer (g .1)) ∙ answer-is p)
-    (sheetAnswer (c .refused3 .result .answer)) (c .refused3 .result .sheet) (c .refused3 .ensures .0) (c .refused3 .ensures .1)
+    let g = d .answer .given in
+    step-turned (s .args .self) (now (s .args .payload)) (lentOf s) (callNumber (g .0 .0)) (p .push .result .splitter)
+    (pend p) (out p) (rows p) (gave p _ (g .1))
+    (sheetAnswer (c .refused3 .result .answer)) (c .refused3 .result .sheet) (c .refused3 .ensures .0)
+    (c .refused3 .ensures .1)
 
 same-length-4 : tie.Need-same-length-4
 same-length-4 c = search needs
@@ -180,12 +243,15 @@ same-length-7 c = search needs
 
 returns-4 : tie.Need-returns-4
 returns-4 c =
-    let p = c .before .before .before .before .before .before .before .before .before .before .before .before .before in
+    let l = c .before .before in
+    let d = idly l in
+    let p = idle d in
     let s = begin p in
-    let lines = c .before .before .with-lines in
-    step-wrote (s .args .self) (now (s .args .payload)) (lentOf s) (loose p) (p .push .last .1 .1 .1 .0) (p .push .last .1 .1 .1 .1 .0) (p .push .last .1 .1 .1 .1 .1 .0)
-    (pend-is p) (out-is p) (rows-are p) false 0 0 (sym (ap pushAnswer (c .before .before .before .before .before .enum-told2 .given .1)) ∙ answer-is p) (p .push .result .splitter) (state-is p)
-    (sheetAnswer (lines .result .answer)) (lines .result .sheet) (lines .last .1 .1 .1 .1 .0) (lines .ensures .0) (lines .ensures .1 .0) (lines .ensures .1 .1)
+    let lines = l .with-lines in
+    step-wrote (s .args .self) (now (s .args .payload)) (lentOf s) (room p) false 0 0 (p .push .result .splitter)
+    (pend p) (out p) (rows p) (gave p _ (d .enum-told2 .given .1))
+    (sheetAnswer (lines .result .answer)) (lines .result .sheet) (lines .last .1 .1 .1 .1 .0) (lines .ensures .0)
+    (lines .ensures .1 .0) (lines .ensures .1 .1)
 
 same-length-8 : tie.Need-same-length-8
 same-length-8 c = search needs
@@ -201,12 +267,16 @@ same-length-11 c = search needs
 
 returns-5 : tie.Need-returns-5
 returns-5 c =
-    let p = c .before .before .before .before .before .before .before .before .before .before .before .before .before .before in
+    let l = c .before .before in
+    let d = lining (l .before) in
+    let p = taken d in
     let s = begin p in
-    let lines = c .before .before .with-lines2 in
-    step-wrote (s .args .self) (now (s .args .payload)) (lentOf s) (loose p) (p .push .last .1 .1 .1 .0) (p .push .last .1 .1 .1 .1 .0) (p .push .last .1 .1 .1 .1 .1 .0)
-    (pend-is p) (out-is p) (rows-are p) true (c .before .before .before .before .before .before .answer2 .given .0 .0 .rows) (c .before .before .before .before .before .before .answer2 .given .0 .0 .bytes) (sym (ap pushAnswer (c .before .before .before .before .before .before .answer2 .given .1)) ∙ answer-is p) (p .push .result .splitter) (state-is p)
-    (sheetAnswer (lines .result .answer)) (lines .result .sheet) (lines .last .1 .1 .1 .1 .0) (lines .ensures .0) (lines .ensures .1 .0) (lines .ensures .1 .1)
+    let w = d .answer2 .given in
+    let lines = l .with-lines2 in
+    step-wrote (s .args .self) (now (s .args .payload)) (lentOf s) (room p) true (w .0 .0 .rows) (w .0 .0 .bytes)
+    (p .push .result .splitter) (pend p) (out p) (rows p) (gave p _ (w .1))
+    (sheetAnswer (lines .result .answer)) (lines .result .sheet) (lines .last .1 .1 .1 .1 .0) (lines .ensures .0)
+    (lines .ensures .1 .0) (lines .ensures .1 .1)
 
 pub cut-spec : {M : Type 1} → statement M
 cut-spec =

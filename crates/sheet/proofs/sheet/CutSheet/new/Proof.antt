@@ -15,10 +15,14 @@ enum-known-refusal : tie.Need-enum-known-refusal
 enum-known-refusal c = search needs
 
 returns : tie.Need-returns
-returns c = new-made (c .before .before .before .before .args .code) (c .before .splitter .given .0 .0) (sym (c .before .before .before .new .ensures) ∙ c .before .splitter .given .1)
+returns c =
+    new-made (c .before .before .before .before .args .code) (c .before .splitter .given .0 .0)
+    (sym (c .before .before .before .new .ensures) ∙ c .before .splitter .given .1)
 
 returns-2 : tie.Need-returns-2
-returns-2 c = new-refused (c .before .before .before .before .args .code) (c .before .refusal .given .0 .0) (sym (c .before .before .before .new .ensures) ∙ c .before .refusal .given .1)
+returns-2 c =
+    new-refused (c .before .before .before .before .args .code) (c .before .refusal .given .0 .0)
+    (sym (c .before .before .before .new .ensures) ∙ c .before .refusal .given .1)
 
 pub new-spec : {M : Type 1} → statement M
 new-spec =

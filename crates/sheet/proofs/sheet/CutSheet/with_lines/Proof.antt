@@ -26,7 +26,8 @@ returns c =
       ap written (put .ensures .0),
       (
         ap (λ (k : ℕ). record { splitter = s .args .splitter; number = k; begun = true }) (c .number-after .ensures),
-        put .ensures .1 ∙ put-front (linesOf (s .args .self .number) (s .args .count) (now (s .args .rows))) (now (s .args .text)),
+        put .ensures .1 ∙ put-front (linesOf (s .args .self .number) (s .args .count) (now (s .args .rows)))
+            (now (s .args .text)),
       ),
     )
 

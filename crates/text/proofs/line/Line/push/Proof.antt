@@ -21,7 +21,10 @@ returns : tie.Need-returns
 returns c = let s = c .before .args in (push-within (length (now (s .text))) (s .self) (c .if1 .taken), refl)
 
 returns-2 : tie.Need-returns-2
-returns-2 c = let s = c .before .args in (push-full (length (now (s .text))) (s .self) (c .if1 .left), sym (set-out (now (s .text)) (s .self .len) (s .byte) (c .if1 .left)))
+returns-2 c = let s = c .before .args in (
+  push-full (length (now (s .text))) (s .self) (c .if1 .left),
+  sym (set-out (now (s .text)) (s .self .len) (s .byte) (c .if1 .left)),
+)
 
 pub push-spec : {M : Type 1} → statement M
 push-spec = tie.close (tie.spec slice-write-text add-t8 same-length returns returns-2)

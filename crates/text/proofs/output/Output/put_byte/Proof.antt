@@ -21,7 +21,9 @@ element-write-block-2 : tie.Need-element-write-block-2
 element-write-block-2 c = search needs
 
 returns-2 : tie.Need-returns-2
-returns-2 c = let s = c .before .before .before .args in put-full (s .byte) (s .self) (c .flushed .result) (now (s .block)) (c .before .before .if1 .left) (c .flushed .ensures)
+returns-2 c =
+    let s = c .before .before .before .args in put-full (s .byte) (s .self) (c .flushed .result) (now (s .block))
+    (c .before .before .if1 .left) (c .flushed .ensures)
 
 pub put-byte-spec : {M : Type 1} → statement M
 put-byte-spec =

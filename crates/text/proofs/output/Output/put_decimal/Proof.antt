@@ -17,7 +17,11 @@ put-text-requires : tie.Need-put-text-requires
 put-text-requires c κs = search needs
 
 returns : tie.Need-returns
-returns c = let s = c .before .before .before .before .before .args in rw (← decimal-is (s .n) (c .before .before .before .decimal .result) (c .before .before .before .decimal .ensures .1 .0)) (rw (c .before .before .before .decimal .ensures .1 .1) at (c .put-text .ensures))
+returns c =
+    let s = c .before .before .before .before .before .args in rw
+    (← decimal-is (s .n) (c .before .before .before .decimal .result)
+    (c .before .before .before .decimal .ensures .1 .0))
+    (rw (c .before .before .before .decimal .ensures .1 .1) at (c .put-text .ensures))
 
 pub put-decimal-spec : {M : Type 1} → statement M
 put-decimal-spec =

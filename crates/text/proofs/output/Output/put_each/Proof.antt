@@ -12,7 +12,8 @@ use Rattle.text.proofs.output.Output.put_each.Statement.{statement}
 use Rattle.text.proofs.output.Output.put_each.Tie as tie
 
 abbrev Inv-loop : tie.InvT-loop
-Inv-loop block₀ text out₀ i₀ i-end block out i = (i-end ≡ length text) × (i ≤ length text) × Put (take i text) out₀ out block₀ block
+Inv-loop block₀ text out₀ i₀ i-end block out i =
+    (i-end ≡ length text) × (i ≤ length text) × Put (take i text) out₀ out block₀ block
 
 abbrev μ-loop : tie.MeasureT-loop
 μ-loop block₀ text out₀ i₀ i-end block out i = i-end - i

@@ -11,7 +11,8 @@ use Rattle.text.proofs.output.Output.put_run.Statement.{statement}
 use Rattle.text.proofs.output.Output.put_run.Tie as tie
 
 abbrev Inv-loop : tie.InvT-loop
-Inv-loop self block₀ text len i₀ i-end block i = (i-end ≡ length text) × (i ≤ length text) × Put (take i text) self (afterRun self i) block₀ block
+Inv-loop self block₀ text len i₀ i-end block i =
+    (i-end ≡ length text) × (i ≤ length text) × Put (take i text) self (afterRun self i) block₀ block
 
 abbrev μ-loop : tie.MeasureT-loop
 μ-loop self block₀ text len i₀ i-end block i = i-end - i
@@ -37,8 +38,11 @@ loop-less c = search needs
 loop-again : tie.Need-loop-again Inv-loop μ-loop
 loop-again c =
     let s = c .before .before .before in
-    let h = c .before .before .loop in
-    (search needs, search needs, run-next (s .args .self) (now (s .args .text)) (h .i) (omega arith) (s .pre) (h .inv .2))
+    let h = c .before .before .loop in (
+      search needs,
+      search needs,
+      run-next (s .args .self) (now (s .args .text)) (h .i) (omega arith) (s .pre) (h .inv .2),
+    )
 
 add-t14 : tie.Need-add-t14 Inv-loop μ-loop
 add-t14 c = search needs

@@ -1,7 +1,7 @@
 -- Nothing is left in the block, and a failure is not forgotten.
 use borrow.Author.Needs.{needs}
-use Rattle.text.proofs.output.Output.flushed.Statement.{statement}
-use Rattle.text.proofs.output.Output.flushed.Tie as tie
+use Rattle.text.proofs.output.Output.written.Statement.{statement}
+use Rattle.text.proofs.output.Output.written.Tie as tie
 
 returns : tie.Need-returns
 returns c = search needs
@@ -15,5 +15,5 @@ write-all-requires c κs = search needs
 returns-2 : tie.Need-returns-2
 returns-2 c = record { len = search needs; failed = λ e. search needs }
 
-pub flushed-spec : {M : Type 1} → statement M
-flushed-spec = tie.close (tie.spec returns front-requires write-all-requires returns-2)
+pub written-spec : {M : Type 1} → statement M
+written-spec = tie.close (tie.spec returns front-requires write-all-requires returns-2)

@@ -1,9 +1,9 @@
 -- Neither -1 - x nor the casts lose anything.
 use native.Mathlib.Omega.{arith}
-use Rattle.splitter.proofs.Signed.{small-casts, small-fits, small-held, held-at-least-zero, held-below, held-size}
+use Rattle.numbers.proofs.Signed.{small-casts, small-fits, small-held, held-at-least-zero, held-below, held-size}
 use borrow.Author.Needs.{needs}
-use Rattle.sheet.proofs.number.magnitude.Statement.{statement}
-use Rattle.sheet.proofs.number.magnitude.Tie as tie
+use Rattle.numbers.proofs.magnitude.Statement.{statement}
+use Rattle.numbers.proofs.magnitude.Tie as tie
 
 cast-result : tie.Need-cast-result
 cast-result c = small-casts (held-at-least-zero (c .before .fits .x) (c .if1 .taken))

@@ -1,4 +1,5 @@
--- The decimal digits of a number: how they are made, how many there are, and that the number is read back from them. Assumes nothing.
+-- The decimal digits of a number: how they are made, how many there are, and that the number is read back from them.
+-- Assumes nothing.
 use mathlib.Core.Path.{_≡_, refl, sym, _∙_, ap}
 use mathlib.Core.Bool.{Bool, true, false}
 use mathlib.Core.List.{List, [], _∷_, _++_}
@@ -8,7 +9,7 @@ use native.Mathlib.Nat.{not-suc-le-zero}
 use lib.Dec.{ltb}
 use lib.ListN.{length, length-append}
 use borrow.Author.Tests.{ltb-true, ltb-false, lt-ltb, le-ltb}
-use Rattle.sheet.specs.Layout.{digit, digits, decimal}
+use Rattle.numbers.specs.Decimal.{digit, digits, decimal, valueFrom, value}
 
 -- ---- how they are made
 
@@ -46,10 +47,11 @@ decimal-small n h = digits-small n n h
 pub decimal-large : (n : ℕ) → 10 ≤ n → decimal n ≡ decimal (n / 10) ++ (digit (n % 10) ∷ [])
 unfolding decimal
 decimal-large n h =
-    digits-large n n h ∙ ap (λ (d : List ℕ). d ++ (digit (n % 10) ∷ [])) (stable n (suc (n / 10)) (n / 10) (omega arith) (omega arith))
+    digits-large n n h ∙ ap (λ (d : List ℕ). d ++ (digit (n % 10) ∷ []))
+    (stable n (suc (n / 10)) (n / 10) (omega arith) (omega arith))
 
--- places that are enough for a number make the same digits: at a large literal, `digits` computes by so few steps, and `decimal` by as many
--- as the number says
+-- places that are enough for a number make the same digits: at a large literal, `digits` computes by so few steps, and
+-- `decimal` by as many as the number says
 pub decimal-by : (k n : ℕ) → 0 < k → n < 10 ^ k → decimal n ≡ digits k n
 decimal-by zero n h i = absurd (not-suc-le-zero h)
 decimal-by (suc zero) n h i = decimal-small n i ∙ sym (digits-small 0 n i)
@@ -60,7 +62,8 @@ decimal-by (suc (suc k)) n h i =
     ∙ ap (λ (d : List ℕ). d ++ (digit (n % 10) ∷ [])) (decimal-by (suc k) (n / 10) (omega arith) (omega arith))
     ∙ sym (digits-large (suc k) n l))
 
--- what holds of the numbers of one digit, and of a number where it holds of the number without its last digit, holds of all
+-- what holds of the numbers of one digit, and of a number where it holds of the number without its last digit, holds of
+-- all
 pub by-digits {ℓ} : (P : ℕ → Type ℓ) → ((n : ℕ) → n < 10 → P n) → ((n : ℕ) → 10 ≤ n → P (n / 10) → P n) → (n : ℕ) → P n
 by-digits P one more n = go (suc n) n (omega arith)
   where
@@ -70,13 +73,15 @@ by-digits P one more n = go (suc n) n (omega arith)
 
 -- ---- how many there are
 
-longer : (n : ℕ) → 10 ≤ n → length (decimal n) ≡ length (decimal (n / 10)) + 1
+-- one more than without the last one
+pub longer : (n : ℕ) → 10 ≤ n → length (decimal n) ≡ length (decimal (n / 10)) + 1
 longer n h = ap length (decimal-large n h) ∙ length-append (decimal (n / 10)) (digit (n % 10) ∷ [])
 
 -- one at least
 pub decimal-least : (n : ℕ) → 1 ≤ length (decimal n)
 decimal-least n =
-    one-or-more (1 ≤ length (decimal n)) n (λ h. omega (arith, ap length (decimal-small n h))) (λ h. omega (arith, longer n h))
+    one-or-more (1 ≤ length (decimal n)) n (λ h. omega (arith, ap length (decimal-small n h)))
+    (λ h. omega (arith, longer n h))
 
 -- no more than the places that are enough for the number
 pub decimal-most : (k n : ℕ) → 0 < k → n < 10 ^ k → length (decimal n) ≤ k
@@ -86,15 +91,38 @@ decimal-most (suc (suc k)) n h i =
     one-or-more (length (decimal n) ≤ suc (suc k)) n (λ l. omega (arith, ap length (decimal-small n l)))
     (λ l. omega (arith, longer n l, decimal-most (suc k) (n / 10) (omega arith) (omega arith)))
 
+-- a number of 64 bits has at most twenty digits
+pub twenty : (n : ℕ) → n < 2 ^ 64 → length (decimal n) ≤ 20
+twenty n h = decimal-most 20 n (omega arith) (omega arith)
+
+-- no fewer than those that are too few for the number, and one
+decimal-many : (k n : ℕ) → 10 ^ k ≤ n → k + 1 ≤ length (decimal n)
+decimal-many zero n h = decimal-least n
+decimal-many (suc k) n h =
+    one-or-more (suc k + 1 ≤ length (decimal n)) n (λ l. absurd (omega (arith, positive k)))
+    (λ l. omega (arith, longer n l, decimal-many k (n / 10) (omega arith)))
+  where
+    positive : (k : ℕ) → 1 ≤ 10 ^ k
+    positive zero = omega arith
+    positive (suc k) = omega (arith, positive k)
+
+pub decimal-count : (k n : ℕ) → 10 ^ k ≤ n → n < 10 ^ (k + 1) → length (decimal n) ≡ k + 1
+decimal-count k n h i = omega (arith, decimal-many k n h, decimal-most (k + 1) n (omega arith) i)
+
+-- four more than without the last four
+pub four-longer : (n : ℕ) → 10000 ≤ n → length (decimal n) ≡ length (decimal (n / 10000)) + 4
+four-longer n h =
+    let e : n / 10 / 10 / 10 / 10 ≡ n / 10000 = omega arith in
+    omega (
+      arith,
+      longer n (omega arith),
+      longer (n / 10) (omega arith),
+      longer (n / 10 / 10) (omega arith),
+      longer (n / 10 / 10 / 10) (omega arith),
+      ap (λ (m : ℕ). length (decimal m)) e,
+    )
+
 -- ---- the number that they say
-
--- digits, the first the most significant, that stand behind those of a number
-abbrev pub valueFrom : ℕ → List ℕ → ℕ
-valueFrom a [] = a
-valueFrom a (c ∷ cs) = valueFrom (a * 10 + (c - 48)) cs
-
-abbrev pub value : List ℕ → ℕ
-value cs = valueFrom 0 cs
 
 pub value-append : (a : ℕ) (cs ds : List ℕ) → valueFrom a (cs ++ ds) ≡ valueFrom (valueFrom a cs) ds
 value-append a [] ds = refl
@@ -103,7 +131,8 @@ value-append a (c ∷ cs) ds = value-append (a * 10 + (c - 48)) cs ds
 -- a number is read back from its digits
 pub value-decimal : (n : ℕ) → value (decimal n) ≡ n
 value-decimal = by-digits (λ n. value (decimal n) ≡ n) (λ n h. ap value (decimal-small n h) ∙ omega arith)
-    (λ n h e. ap value (decimal-large n h) ∙ value-append 0 (decimal (n / 10)) (digit (n % 10) ∷ []) ∙ rw e (omega arith))
+    (λ n h e. ap value (decimal-large n h) ∙ value-append 0 (decimal (n / 10)) (digit (n % 10) ∷ []) ∙ rw e
+    (omega arith))
 
 -- two numbers with the same digits are one
 pub decimal-one : (n m : ℕ) → decimal n ≡ decimal m → n ≡ m
