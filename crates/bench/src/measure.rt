@@ -10,6 +10,7 @@ use splitter::AudioFrameSplitter;
 use splitter::NewSplitter;
 use splitter::Pts;
 use splitter::Pushed;
+use splitter::ROW_WIDTH;
 use text::front;
 ghost use Prim.Native.Nat.{_≤_, _<_};
 ghost use lib.ListN.{length};
@@ -24,7 +25,7 @@ const PENDING_LEN: usize = 8200;
 
 const OUT_LEN: usize = 73800;
 
-const ROWS_LEN: usize = 84280;
+const ROWS_LEN: usize = ROW_WIDTH * 10535;
 
 pub fn run() {
     let mut input = [0u8; INPUT_MAX];
@@ -100,7 +101,8 @@ fn measure(stream: &[u8], first: AudioFrameSplitter, size: usize, rounds: u64) -
     totals
 }
 
-// The whole stream in payloads of one size, of which the last may be shorter. The first has the timestamp 0, and the others have none.
+// The whole stream in payloads of one size, of which the last may be shorter. The first has the timestamp 0, and the
+// others have none.
 fn round(
     totals: Totals,
     first: AudioFrameSplitter,

@@ -1,4 +1,5 @@
 // The first line: `CODE SIZE ROUNDS`.
+use splitter::PAYLOAD_MAX;
 use text::Number;
 use text::Place;
 use text::Short;
@@ -10,9 +11,6 @@ ghost use Rattle.bench.specs.Setup.{Usable};
 
 // How many bytes the line may have, with its line feed.
 pub const LINE_MAX: usize = 64;
-
-// The most bytes that the splitter takes in one payload.
-const SIZE_MAX: u64 = 65535;
 
 pub struct Setup {
     pub code: u32,
@@ -40,7 +38,7 @@ pub fn parse_setup(input: &[u8]) -> FirstLine
     let Number::Value {
         value: size,
         next: size_end,
-    } = number_after(input, code_end, b' ', SIZE_MAX)
+    } = number_after(input, code_end, b' ', PAYLOAD_MAX as u64)
     else {
         return FirstLine::Malformed;
     };

@@ -1,14 +1,16 @@
 // What came out of the splitter, summed over all rounds modulo 2^64.
+use numbers::magnitude;
 use splitter::AudioFrameSplitter;
 use splitter::PushAnswer;
+use splitter::ROW_WIDTH;
 use splitter::Written;
 use std::num::wrapping_add_u64;
+use std::num::wrapping_sub_u64;
 ghost use Prim.Native.Nat.{_+_, _≤_};
 ghost use lib.ListN.{length};
+ghost use Rattle.splitter.specs.Bounds.{rowWidth};
 
-// How many numbers a row has, and which of them say whether there is a stamp, and what it is.
-const ROW_LEN: usize = 8;
-
+// Which numbers of a row say whether there is a stamp, and what it is.
 const STAMP_PRESENT: usize = 6;
 
 const STAMP: usize = 7;
@@ -64,8 +66,8 @@ impl Totals {
 // No contract of the splitter is relied on here, so it may say that it wrote more rows than there are.
 fn sum_stamps(sum: u64, rows: &[i64], count: usize) -> u64 {
     let mut stamps = sum;
-    for k in 0..least(count, rows.len() / ROW_LEN) {
-        stamps = wrapping_add_u64(stamps, stamp_at(rows, k * ROW_LEN));
+    for k in 0..least(count, rows.len() / ROW_WIDTH) {
+        stamps = wrapping_add_u64(stamps, stamp_at(rows, k * ROW_WIDTH));
     }
     stamps
 }
@@ -78,7 +80,7 @@ fn least(a: usize, b: usize) -> usize
 
 // The stamp of the row from place at on, or 0 where it has none.
 fn stamp_at(rows: &[i64], at: usize) -> u64
-    requires { ⌜ at + 8 ≤ length (now rows) ⌝ }
+    requires { ⌜ at + rowWidth ≤ length (now rows) ⌝ }
 {
     if rows[at + STAMP_PRESENT] != 1 {
         return 0;
@@ -88,9 +90,8 @@ fn stamp_at(rows: &[i64], at: usize) -> u64
 
 // x modulo 2^64.
 fn wrapped(x: i64) -> u64 {
-    if x >= 0 {
-        return x as u64;
+    if x < 0 {
+        return wrapping_sub_u64(0, magnitude(x));
     }
-    let beyond = (-1 - x) as u64;
-    u64::MAX - beyond
+    magnitude(x)
 }

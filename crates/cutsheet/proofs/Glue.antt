@@ -1,4 +1,5 @@
--- The glue: a step over the text from a place on, the last line there, and the payloads of a block one after the other. Assumes nothing.
+-- The glue: a step over the text from a place on, the last line there, and the payloads of a block one after the other.
+-- Assumes nothing.
 use mathlib.Core.Path.{_≡_, refl, subst, sym, ap, _∙_}
 use mathlib.Core.Bool.{Bool, true, false, cond, true≢false}
 use mathlib.Core.List.{List, [], _∷_, _++_}
@@ -10,7 +11,7 @@ use lib.Dec.{ltb}
 use lib.IntN.{ℤ, pos}
 use lib.ListN.{length, take, drop, replicate, length-drop, length-replicate, drop-of-length-le}
 use lib.Seq.{take-all, drop-drop}
-use Rattle.splitter.specs.Answer.{Answer, done, refusalNumber}
+use Rattle.splitter.specs.Answer.{Answer, done, callNumber}
 use Rattle.splitter.specs.Push.{Outcome, over}
 use Rattle.splitter.specs.declared.answer.SplitterRefusal.{SplitterRefusal}
 use Rattle.splitter.proofs.Buffers.{put-tail, write-after}
@@ -21,9 +22,10 @@ use Rattle.sheet.specs.declared.sheet.CutSheet.{CutSheet}
 use Rattle.sheet.specs.declared.sheet.SheetAnswer.the-variants.{Written, Refused}
 use Rattle.sheet.proofs.Sheets.{Same, push-same, AllPayloads, payloads-none, payloads-next, step-open}
 use Rattle.sheet.proofs.Stepping.{Gives, step-stays}
+use Rattle.text.specs.declared.output.Output.{Output}
+use Rattle.cutsheet.specs.Bounds.{textLength}
 use Rattle.cutsheet.specs.Glue.{Roomed, stepFrom, CutFrom, Sized, closedAt, sessionBy, PayloadCut, PayloadsCut, all, closed, next, State, stateOf, stateBy, stateAfter, statesAfter, StateCut, usableOf}
 use Rattle.cutsheet.specs.declared.input.Filled.{Filled}
-use Rattle.cutsheet.specs.declared.output.Output.{Output}
 use Rattle.cutsheet.specs.declared.session.Session.{Session}
 
 -- ---- the text from a place on
@@ -32,7 +34,8 @@ rest-whole : (text : List ℕ) (at : ℕ) → take (length text - at) (drop at t
 rest-whole text at = take-all (length text - at) (drop at text) (simp length-drop (omega arith))
 
 -- a step over it
-pub passed-from : (c : CutSheet) (p : List ℕ) (b : Lent) (at : ℕ) (r : CutLines) (pend out : List ℕ) (rows : List ℤ) (last : List ℕ)
+pub passed-from : (c : CutSheet) (p : List ℕ) (b : Lent) (at : ℕ) (r : CutLines) (pend out : List ℕ) (rows : List ℤ)
+    (last : List ℕ)
     → at ≤ length (b .text)
     → Gives (sheetAnswer (r .answer)) (r .sheet) pend out rows last
     (step c p (lent (b .pend) (b .out) (b .rows) (take (length (b .text) - at) (drop at (b .text)))))
@@ -40,7 +43,8 @@ pub passed-from : (c : CutSheet) (p : List ℕ) (b : Lent) (at : ℕ) (r : CutLi
 passed-from c p b at r pend out rows last h g =
     let given : Gives (sheetAnswer (r .answer)) (r .sheet) pend out rows last (stepFrom c p b at) =
     subst
-    (λ (l : List ℕ). Gives (sheetAnswer (r .answer)) (r .sheet) pend out rows last (step c p (lent (b .pend) (b .out) (b .rows) l)))
+    (λ (l : List ℕ). Gives (sheetAnswer (r .answer)) (r .sheet) pend out rows last
+    (step c p (lent (b .pend) (b .out) (b .rows) l)))
     (rest-whole (b .text) at) g in
     record {
       answer = given .0;
@@ -55,7 +59,8 @@ passed-from c p b at r pend out rows last h g =
     }
 
 -- the last line in it
-long-text : (short : Bool) (c : CutSheet) (text : List ℕ) → short ≡ false → endIf short c text .text ≡ over (endOf (c .splitter)) text
+long-text : (short : Bool) (c : CutSheet) (text : List ℕ) → short ≡ false
+    → endIf short c text .text ≡ over (endOf (c .splitter)) text
 long-text true c text e = let z : _≡_ {A = ℕ} 0 1 = cc in absurd (omega arith)
 long-text false c text e = refl
 
@@ -83,15 +88,19 @@ module _ (s : Session) (p : List ℕ) (was is : Lent) (o : Output) (r : CutLines
         room = room;
         session =
             ap (λ (z : CutSheet). sessionBy (written n) z o) (cut .state)
-            ∙ ap (λ (a : Wrote). sessionBy a (stepFrom (s .sheet) p was (o .len) .state) o) (sym (ap sheetAnswer e) ∙ cut .answer);
+            ∙ ap (λ (a : Wrote). sessionBy a (stepFrom (s .sheet) p was (o .len) .state) o)
+            (sym (ap sheetAnswer e) ∙ cut .answer);
         buffers = cut .buffers;
       }
 
   -- the step's state is the one before it
-  pub payload-refused : (g : SplitterRefusal) → r .answer ≡ Refused g → (t : Session) → t ≡ closedAt (s .sheet) o → PayloadCut s p was t is
+  pub payload-refused : (g : SplitterRefusal) → r .answer ≡ Refused g → (t : Session) → t ≡ closedAt (s .sheet) o
+      → PayloadCut s p was t is
   payload-refused g e t k =
-      let a : refused (refusalNumber g) ≡ stepFrom (s .sheet) p was (o .len) .answer = sym (ap sheetAnswer e) ∙ cut .answer in
-      let same = step-stays (s .sheet) p (lent (was .pend) (was .out) (was .rows) (drop (o .len) (was .text))) (refusalNumber g) (sym a) .0 in
+      let a : refused (callNumber g) ≡ stepFrom (s .sheet) p was (o .len) .answer = sym (ap sheetAnswer e)
+      ∙ cut .answer in
+      let same = step-stays (s .sheet) p (lent (was .pend) (was .out) (was .rows) (drop (o .len) (was .text)))
+      (callNumber g) (sym a) .0 in
       record {
         sized = sized;
         output = o;
@@ -138,13 +147,16 @@ block-next block at end h e =
 -- a place of the block that was reached: what comes of the payloads behind it comes of all
 abbrev pub Reached : Session → Lent → List ℕ → ℕ → Session → Lent → Type 0
 Reached s₀ b₀ block at s b =
-    (r : Session) (e : Lent) → PayloadsCut s b (payloadsOf (drop at block)) r e → PayloadsCut s₀ b₀ (payloadsOf block) r e
+    (r : Session) (e : Lent) → PayloadsCut s b (payloadsOf (drop at block)) r e → PayloadsCut s₀ b₀
+    (payloadsOf block) r e
 
 module _ (s₀ s : Session) (b₀ b : Lent) (block : List ℕ) (at : ℕ) (come : Reached s₀ b₀ block at s b) where
-  pub reach-next : (end : ℕ) → at < length block → end ≡ at + min payloadSize (length block - at) → s .«open» ≡ true → (t : Session) (d : Lent)
+  pub reach-next : (end : ℕ) → at < length block → end ≡ at + min payloadSize (length block - at) → s .«open» ≡ true
+      → (t : Session) (d : Lent)
       → PayloadCut s (take (end - at) (drop at block)) b t d → Reached s₀ b₀ block end t d
   reach-next end h e o t d cut r x rest =
-      come r x (subst (λ (ps : List (List ℕ)). PayloadsCut s b ps r x) (sym (block-next block at end h e)) (next o cut rest))
+      come r x (subst (λ (ps : List (List ℕ)). PayloadsCut s b ps r x) (sym (block-next block at end h e))
+      (next o cut rest))
 
   pub reach-end : length block ≤ at → PayloadsCut s₀ b₀ (payloadsOf block) s b
   reach-end h =
@@ -188,13 +200,13 @@ session-sheet (refused k) c o = refl
 session-sheet (written n) c o = refl
 
 -- there is room behind the output
-roomed-most : (was is : Output) → Roomed was is → is .len + 110565 ≤ 262144
-roomed-most was is room = go (ltb 262144 (was .len + 110565)) refl
+roomed-most : (was is : Output) → Roomed was is → is .len + textSize ≤ textLength
+roomed-most was is room = go (ltb textLength (was .len + textSize)) refl
   where
-    go : (t : Bool) → ltb 262144 (was .len + 110565) ≡ t → is .len + 110565 ≤ 262144
-    go true q = omega (arith, room .emptied (ltb-true 262144 (was .len + 110565) q) .none)
+    go : (t : Bool) → ltb textLength (was .len + textSize) ≡ t → is .len + textSize ≤ textLength
+    go true q = omega (arith, room .emptied (ltb-true textLength (was .len + textSize) q) .len)
     go false q =
-        let h : was .len + 110565 ≤ 262144 = ltb-false 262144 (was .len + 110565) q in
+        let h : was .len + textSize ≤ textLength = ltb-false textLength (was .len + textSize) q in
         omega (arith, ap (λ (o : Output). o .len) (room .kept h))
 
 payload-state : {s t : Session} {p : List ℕ} {was is : Lent} → PayloadCut s p was t is → length p ≤ payloadSize
@@ -205,15 +217,19 @@ payload-state {s} {t} {p} {was} {is} cut hp =
     let x = stepFrom (s .sheet) p was at in
     let long : textSize ≤ length (drop at (was .text)) =
     omega (arith, roomed-most (s .output) (cut .output) (cut .room), cut .sized .text, length-drop at (was .text)) in
-    let sheet : t .sheet ≡ x .state = ap (λ (z : Session). z .sheet) (cut .session) ∙ session-sheet (x .answer) (x .state) (cut .output) in
+    let sheet : t .sheet ≡ x .state = ap (λ (z : Session). z .sheet) (cut .session) ∙ session-sheet (x .answer)
+    (x .state) (cut .output) in
     let here : stateOf t is ≡ stateBy x = cc (sheet, cut .buffers .pend) in
     here
-    ∙ state-same (s .sheet) p (was .pend) (was .out) (replicate outSize 0) (was .rows) (replicate rowsSize (pos 0)) (drop at (was .text))
-    (replicate 110565 0) hp (omega (arith, cut .sized .out)) (full {A = ℕ} outSize 0) (omega (arith, cut .sized .rows)) (full rowsSize (pos 0))
-    long (full {A = ℕ} 110565 0)
+    ∙ state-same (s .sheet) p (was .pend) (was .out) (replicate outSize 0) (was .rows) (replicate rowsSize (pos 0))
+    (drop at (was .text))
+    (replicate textSize 0) hp (omega (arith, cut .sized .out)) (full {A = ℕ} outSize 0)
+    (omega (arith, cut .sized .rows)) (full rowsSize (pos 0))
+    long (full {A = ℕ} textSize 0)
 
 -- of payloads one after the other
-pub payloads-state : {s r : Session} {b e : Lent} {ps : List (List ℕ)} → PayloadsCut s b ps r e → AllPayloads ps → StateCut s b ps r e
+pub payloads-state : {s r : Session} {b e : Lent} {ps : List (List ℕ)} → PayloadsCut s b ps r e → AllPayloads ps
+    → StateCut s b ps r e
 payloads-state all small = record { count = 0; state = refl; whole = λ h. refl }
 payloads-state (closed h) small = record { count = 0; state = refl; whole = λ o. absurd (true≢false (sym o ∙ h)) }
 payloads-state (next {p = p} {ps = ps} o cut rest) small =

@@ -1,5 +1,5 @@
--- What a sheet's call says it wrote lies within the text that it was lent, since the text keeps its length; and the last line is written where
--- there is room. Assumes nothing.
+-- What a sheet's call says it wrote lies within the text that it was lent, since the text keeps its length; and the
+-- last line is written where there is room. Assumes nothing.
 use mathlib.Core.Path.{_≡_, refl, subst, sym, ap, _∙_}
 use mathlib.Core.Bool.{Bool, true, false}
 use mathlib.Core.List.{List}
@@ -47,7 +47,8 @@ unfolding step
 step-room answer c p b a t e =
     within _ answer
     (subst (Room (length (b .text))) (sym a)
-    (by-answer (pushOf c p b .answer) (tightText (length (b .text)) (c .splitter .pending + length p)) c b (pushOf c p b) (sym (ap length t) ∙ e)))
+    (by-answer (pushOf c p b .answer) (tightText (length (b .text)) (c .splitter .pending + length p)) c b
+    (pushOf c p b) (sym (ap length t) ∙ e)))
 
 by-length : (short : Bool) (c : CutSheet) (text : List ℕ)
     → length (endIf short c text .text) ≡ length text
@@ -63,10 +64,12 @@ pub finish-room : (answer : SheetAnswer) (c : CutSheet) (text : List ℕ) {last 
     → Within (length text) answer
 unfolding finish
 finish-room answer c text a t e =
-    within _ answer (subst (Room (length text)) (sym a) (by-length (ltb (length text) endMost) c text (sym (ap length t) ∙ e)))
+    within _ answer (subst (Room (length text)) (sym a)
+    (by-length (ltb (length text) endMost) c text (sym (ap length t) ∙ e)))
 
 -- a text that is long enough gets the last line
-long-enough : (short : Bool) (c : CutSheet) (text : List ℕ) → short ≡ false → endIf short c text .answer ≡ written (length (endOf (c .splitter)))
+long-enough : (short : Bool) (c : CutSheet) (text : List ℕ) → short ≡ false
+    → endIf short c text .answer ≡ written (length (endOf (c .splitter)))
 long-enough true c text e = let z : _≡_ {A = ℕ} 0 1 = cc in absurd (omega arith)
 long-enough false c text e = refl
 

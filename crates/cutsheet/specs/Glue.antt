@@ -1,5 +1,5 @@
--- THE GLUE between what is read and what is written, so far as no file is involved: where the lines of a payload go, and what a session is
--- after a payload and after a block.
+-- THE GLUE between what is read and what is written, so far as no file is involved: where the lines of a payload go,
+-- and what a session is after a payload and after a block.
 use mathlib.Core.Path.{_≡_}
 use mathlib.Core.Bool.{Bool, true, false, not, cond}
 use mathlib.Core.List.{List, [], _∷_, _++_}
@@ -8,27 +8,21 @@ use lib.Dec.{ltb}
 use lib.IntN.{pos}
 use lib.ListN.{length, take, drop, replicate}
 use Rattle.sheet.specs.Sheet.{payloadSize, outSize, rowsSize, payloadsOf, endOf}
-use Rattle.sheet.specs.Step.{Wrote, refused, written, put, sheetAnswer, Lent, lent, Step, step}
+use Rattle.sheet.specs.Step.{Wrote, refused, written, put, sheetAnswer, Lent, lent, Step, textSize, step}
 use Rattle.sheet.specs.declared.sheet.CutLines.{CutLines}
 use Rattle.sheet.specs.declared.sheet.CutSheet.{CutSheet}
+use Rattle.text.specs.Output.{noOutput, Written}
+use Rattle.text.specs.declared.output.Output.{Output}
+use Rattle.cutsheet.specs.Bounds.{textLength, blockLength}
 use Rattle.cutsheet.specs.declared.input.Filled.{Filled}
-use Rattle.cutsheet.specs.declared.output.Output.{Output}
 use Rattle.cutsheet.specs.declared.session.Session.{Session}
 
 -- ---- the output
 
-abbrev pub noOutput : Output
-noOutput = record { len = 0; failed = false }
-
--- after a write: nothing is left to be written, and a failure stays
-pub record Emptied (was is : Output) : Type 0 where
-  pub none : is .len ≡ 0
-  pub failure : was .failed ≡ true → is .failed ≡ true
-
 -- it is written only where the text has too little room behind it for the lines of a payload
 pub record Roomed (was is : Output) : Type 0 where
-  pub kept : was .len + 110565 ≤ 262144 → is ≡ was
-  pub emptied : 262144 < was .len + 110565 → Emptied was is
+  pub kept : was .len + textSize ≤ textLength → is ≡ was
+  pub emptied : textLength < was .len + textSize → Written was is
 
 -- ---- a step
 
@@ -53,7 +47,7 @@ pub record CutFrom (c : CutSheet) (payload : List ℕ) (was : Lent) (at : ℕ) (
 pub record Sized (b : Lent) : Type 0 where
   pub out : length (b .out) ≡ outSize
   pub rows : length (b .rows) ≡ rowsSize
-  pub text : length (b .text) ≡ 262144
+  pub text : length (b .text) ≡ textLength
 
 -- ---- a session
 
@@ -64,12 +58,17 @@ newSession c = record { sheet = c; output = noOutput; «open» = true; «read_fa
 abbrev pub closedAt : CutSheet → Output → Session
 closedAt c o = record { sheet = c; output = o; «open» = false; «read_failed» = false }
 
--- after a step whose lines went behind that output: they are to be written too, and the session goes on unless a write failed. A refused step
--- leaves the sheet's state as it was.
+-- after a step whose lines went behind that output: they are to be written too, and the session goes on unless a write
+-- failed. A refused step leaves the sheet's state as it was.
 abbrev pub sessionBy : Wrote → CutSheet → Output → Session
 sessionBy (refused k) c o = closedAt c o
 sessionBy (written n) c o =
-    record { sheet = c; output = record { len = o .len + n; failed = o .failed }; «open» = not (o .failed); «read_failed» = false }
+    record {
+      sheet = c;
+      output = record { len = o .len + n; failed = o .failed };
+      «open» = not (o .failed);
+      «read_failed» = false;
+    }
 
 -- a payload: one step, its lines behind the output for which there is room
 pub record PayloadCut (s : Session) (payload : List ℕ) (was : Lent) (r : Session) (is : Lent) : Type 0 where
@@ -77,14 +76,16 @@ pub record PayloadCut (s : Session) (payload : List ℕ) (was : Lent) (r : Sessi
   pub output : Output
   pub room : Roomed (s .output) output
   pub session :
-      r ≡ sessionBy (stepFrom (s .sheet) payload was (output .len) .answer) (stepFrom (s .sheet) payload was (output .len) .state) output
+      r ≡ sessionBy (stepFrom (s .sheet) payload was (output .len) .answer)
+      (stepFrom (s .sheet) payload was (output .len) .state) output
   pub buffers : Passed (stepFrom (s .sheet) payload was (output .len)) (output .len) was is
 
 -- payloads, one after the other, until the session is closed
 pub data PayloadsCut : Session → Lent → List (List ℕ) → Session → Lent → Type 0 where
   all : {s : Session} {b : Lent} → PayloadsCut s b [] s b
   closed : {s : Session} {b : Lent} {ps : List (List ℕ)} → s .«open» ≡ false → PayloadsCut s b ps s b
-  next : {s t r : Session} {b d e : Lent} {p : List ℕ} {ps : List (List ℕ)} → s .«open» ≡ true → PayloadCut s p b t d → PayloadsCut t d ps r e
+  next : {s t r : Session} {b d e : Lent} {p : List ℕ} {ps : List (List ℕ)} → s .«open» ≡ true → PayloadCut s p b t d
+      → PayloadsCut t d ps r e
       → PayloadsCut s b (p ∷ ps) r e
 
 -- ---- what passes from payload to payload
@@ -102,7 +103,9 @@ stateBy x = record { sheet = x .state; pend = x .pend }
 
 -- what the other buffers hold does not count, if only they have room: these are the shortest
 unfoldable pub stateAfter : State → List ℕ → State
-stateAfter a p = stateBy (step (a .sheet) p (lent (a .pend) (replicate outSize 0) (replicate rowsSize (pos 0)) (replicate 110565 0)))
+stateAfter a p =
+    stateBy (step (a .sheet) p (lent (a .pend) (replicate outSize 0) (replicate rowsSize (pos 0))
+    (replicate textSize 0)))
 
 abbrev pub statesAfter : State → List (List ℕ) → State
 statesAfter a [] = a
@@ -122,7 +125,12 @@ usableOf f = cond (f .failed) (f .len - f .len % payloadSize) (f .len)
 
 -- a block that is not full is the last
 abbrev pub afterRead : Session → Filled → Session
-afterRead s f = record { sheet = s .sheet; output = s .output; «open» = cond (ltb (f .len) 32768) false (s .«open»); «read_failed» = f .failed }
+afterRead s f = record {
+  sheet = s .sheet;
+  output = s .output;
+  «open» = cond (ltb (f .len) blockLength) false (s .«open»);
+  «read_failed» = f .failed;
+}
 
 -- a block, so far as it was read, and the session after its payloads
 pub record NextCut (s : Session) (block : List ℕ) (was : Lent) (r : Session) (is : Lent) : Type 0 where

@@ -9,7 +9,8 @@ pub struct Filled {
     pub failed: bool,
 }
 
-// Reads until the buffer is full or the input ends. A read that answers 0 is the last one: a terminal could answer more to another.
+// Reads until the buffer is full or the input ends. A read that answers 0 is the last one: a terminal could answer more
+// to another.
 pub fn fill(buffer: &mut [u8]) -> Filled
     ensures { λ r. ⌜ r .len ≤ length (now (buffer .entry)) ⌝ }
 {

@@ -1,39 +1,33 @@
 // A run over standard input: its first line, then the stream, payload by payload.
+use crate::buffers::BLOCK_LEN;
+use crate::buffers::OUT_LEN;
+use crate::buffers::PAYLOAD_LEN;
+use crate::buffers::PENDING_LEN;
+use crate::buffers::ROWS_LEN;
+use crate::buffers::TEXT_LEN;
 use crate::input::Filled;
 use crate::input::fill;
-use crate::output::Output;
-use crate::output::TEXT_LEN;
 use crate::output::print;
 use crate::output::report_read;
 use crate::output::report_write;
+use crate::output::with_room;
 use sheet::CutLines;
 use sheet::CutSheet;
 use sheet::FirstLine;
 use sheet::NewSheet;
 use sheet::SheetAnswer;
 use sheet::first_line;
+use text::Output;
 ghost use mathlib.Core.Path.{_≡_};
 ghost use Prim.Native.Nat.{_+_, _-_, _≤_, _<_, min};
 ghost use lib.ListN.{length};
-ghost use Rattle.sheet.specs.Sheet.{payloadSize, payloadsOf, endOf};
+ghost use Rattle.sheet.specs.Run.{Roomy};
+ghost use Rattle.sheet.specs.Sheet.{payloadSize, pendSize, payloadsOf, endOf};
 ghost use Rattle.sheet.specs.Step.{put, lent, endMost};
-ghost use Rattle.cutsheet.specs.Bounds.{Bounded, Payload, Roomy, Within};
+ghost use Rattle.cutsheet.specs.Bounds.{Bounded, Payload, Within};
 ghost use Rattle.cutsheet.specs.Glue.{CutFrom, PayloadCut, PayloadsCut, StateCut, NextCut, EndPut, newSession, closedAt, usableOf, afterRead};
 
 const FIRST_LINE_LEN: usize = 2;
-
-const PAYLOAD_LEN: usize = 4096;
-
-// Eight payloads: a read for each would cost more time than the cutting. Larger blocks are slower through a pipe, which holds 65536 bytes:
-// whoever fills it can go on only while this program cuts.
-const BLOCK_LEN: usize = 32768;
-
-// The shortest buffers that the splitter takes with up to 8190 bytes pending and a payload.
-const PENDING_LEN: usize = 8190;
-
-const OUT_LEN: usize = 12286;
-
-const ROWS_LEN: usize = 14040;
 
 pub struct Session {
     pub sheet: CutSheet,
@@ -65,7 +59,8 @@ fn print_coded(code: u32) {
     }
 }
 
-// A proved loop has to end, and nothing says that the input does, so the loop counts its turns down from a number that no run uses up.
+// A proved loop has to end, and nothing says that the input does, so the loop counts its turns down from a number that
+// no run uses up.
 fn print_sheet(sheet: CutSheet) {
     let mut block = [0u8; BLOCK_LEN];
     let mut pending = [0u8; PENDING_LEN];
@@ -104,7 +99,9 @@ impl Session {
     ) -> Self
         requires { ⌜ Bounded (self .output) ⌝ }
         ensures { λ r. ⌜ Bounded (r .output) ⌝ }
-        ensures { λ r. ⌜ NextCut self (now (block .exit)) (lent (now (pending .entry)) (now (out .entry)) (now (rows .entry)) (now (text .entry))) r (lent (now (pending .exit)) (now (out .exit)) (now (rows .exit)) (now (text .exit))) ⌝ }
+        ensures { λ r. ⌜
+            NextCut self (now (block .exit)) (lent (now (pending .entry)) (now (out .entry)) (now (rows .entry)) (now (text .entry))) r (lent (now (pending .exit)) (now (out .exit)) (now (rows .exit)) (now (text .exit)))
+            ⌝ }
     {
         let filled = fill(block);
         let len = usable(filled);
@@ -134,8 +131,12 @@ impl Session {
     ) -> Self
         requires { ⌜ Bounded (self .output) ⌝ }
         ensures { λ r. ⌜ Bounded (r .output) ⌝ }
-        ensures { λ r. ⌜ PayloadsCut self (lent (now (pending .entry)) (now (out .entry)) (now (rows .entry)) (now (text .entry))) (payloadsOf (now (block .entry))) r (lent (now (pending .exit)) (now (out .exit)) (now (rows .exit)) (now (text .exit))) ⌝ }
-        ensures { λ r. ⌜ StateCut self (lent (now (pending .entry)) (now (out .entry)) (now (rows .entry)) (now (text .entry))) (payloadsOf (now (block .entry))) r (lent (now (pending .exit)) (now (out .exit)) (now (rows .exit)) (now (text .exit))) ⌝ }
+        ensures { λ r. ⌜
+            PayloadsCut self (lent (now (pending .entry)) (now (out .entry)) (now (rows .entry)) (now (text .entry))) (payloadsOf (now (block .entry))) r (lent (now (pending .exit)) (now (out .exit)) (now (rows .exit)) (now (text .exit)))
+            ⌝ }
+        ensures { λ r. ⌜
+            StateCut self (lent (now (pending .entry)) (now (out .entry)) (now (rows .entry)) (now (text .entry))) (payloadsOf (now (block .entry))) r (lent (now (pending .exit)) (now (out .exit)) (now (rows .exit)) (now (text .exit)))
+            ⌝ }
     {
         let mut session = self;
         let mut at = 0;
@@ -158,10 +159,12 @@ impl Session {
     ) -> Self
         requires { ⌜ Bounded (self .output) × Payload (length (now payload)) ⌝ }
         ensures { λ r. ⌜ Bounded (r .output) ⌝ }
-        ensures { λ r. ⌜ PayloadCut self (now (payload .entry)) (lent (now (pending .entry)) (now (out .entry)) (now (rows .entry)) (now (text .entry))) r (lent (now (pending .exit)) (now (out .exit)) (now (rows .exit)) (now (text .exit))) ⌝ }
+        ensures { λ r. ⌜
+            PayloadCut self (now (payload .entry)) (lent (now (pending .entry)) (now (out .entry)) (now (rows .entry)) (now (text .entry))) r (lent (now (pending .exit)) (now (out .exit)) (now (rows .exit)) (now (text .exit)))
+            ⌝ }
     {
         let output = self.output;
-        let roomy = output.with_room(text);
+        let roomy = with_room(output, text);
         let len = roomy.len;
         let sheet = self.sheet;
         let cut = cut_from(sheet, payload, pending, out, rows, text, len);
@@ -207,7 +210,7 @@ impl Session {
             report_read();
             return;
         }
-        let roomy = output.with_room(text);
+        let roomy = with_room(output, text);
         let sheet = self.sheet;
         let whole = Output {
             len: finish_from(sheet, text, roomy.len),
@@ -218,8 +221,8 @@ impl Session {
     }
 }
 
-// How many bytes of a block to cut. Where a read failed, a payload that is not whole is left alone: with the rest of it, it might be cut
-// otherwise.
+// How many bytes of a block to cut. Where a read failed, a payload that is not whole is left alone: with the rest of
+// it, it might be cut otherwise.
 fn usable(filled: Filled) -> usize
     ensures { λ r. ⌜ r ≡ usableOf filled ⌝ }
 {
@@ -240,7 +243,8 @@ fn payload_end(at: usize, len: usize) -> usize
     len
 }
 
-// Lends the text from a place on. The call is by itself, so that the proofs around it have nothing of its contract to go through.
+// Lends the text from a place on. The call is by itself, so that the proofs around it have nothing of its contract to
+// go through.
 fn cut_from(
     sheet: CutSheet,
     payload: &[u8],
@@ -252,9 +256,12 @@ fn cut_from(
 ) -> CutLines
     requires { ⌜ Payload (length (now payload)) ⌝ }
     requires { ⌜ at ≤ length (now text) ⌝ }
-    requires { ⌜ Roomy (length (now pending)) (length (now out)) (length (now rows)) (length (now text) - at) ⌝ }
+    requires { ⌜ pendSize ≤ length (now pending) ⌝ }
+    requires { ⌜ Roomy (length (now out)) (length (now rows)) (length (now text) - at) ⌝ }
     ensures { λ r. ⌜ Within (length (now (text .entry)) - at) (r .answer) ⌝ }
-    ensures { λ r. ⌜ CutFrom sheet (now (payload .entry)) (lent (now (pending .entry)) (now (out .entry)) (now (rows .entry)) (now (text .entry))) at r (lent (now (pending .exit)) (now (out .exit)) (now (rows .exit)) (now (text .exit))) ⌝ }
+    ensures { λ r. ⌜
+        CutFrom sheet (now (payload .entry)) (lent (now (pending .entry)) (now (out .entry)) (now (rows .entry)) (now (text .entry))) at r (lent (now (pending .exit)) (now (out .exit)) (now (rows .exit)) (now (text .exit)))
+        ⌝ }
 {
     sheet.cut(payload, pending, out, rows, &mut text[at..])
 }

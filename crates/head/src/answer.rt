@@ -2,16 +2,20 @@
 use crate::request::BYTES_MAX;
 use crate::request::Request;
 use crate::request::parse_request;
+use heads::AudioFrameInfo;
 use heads::AudioSyntax;
 use heads::CodedSyntax;
+use heads::Head;
 use text::BLOCK_LEN;
 use text::Output;
 use text::front;
-ghost use mathlib.Core.Path.{_≡_};
-ghost use Prim.Native.Nat.{_+_, _≤_};
-ghost use Rattle.head.specs.Info.{numberAt};
-
-const NUMBERS: usize = 6;
+ghost use mathlib.Core.List.{_∷_, [], _++_};
+ghost use lib.ListN.{take};
+ghost use Rattle.heads.specs.Numbers.{headAnswer};
+ghost use Rattle.heads.specs.Syntax.{headOfCode};
+ghost use Rattle.numbers.specs.Decimal.{decimal};
+ghost use Rattle.text.specs.Output.{Put};
+ghost use Rattle.head.specs.Answer.{answerLine, refusedText};
 
 pub fn put_answer(out: Output, block: &mut [u8; BLOCK_LEN], line: &[u8]) -> Output {
     let mut bytes = [0u8; BYTES_MAX];
@@ -39,13 +43,15 @@ fn put_head(
     code: u32,
     bytes: &[u8; BYTES_MAX],
     count: usize,
-) -> Output {
-    let mut info = [0u8; 24];
-    let number = heads::audio_frame_head(code, front(bytes, count), &mut info);
-    if number == 0 {
-        return put_info(out, block, &info);
+) -> Output
+    ensures { λ r. ⌜
+        Put (answerLine (headAnswer (headOfCode code (take count (now (bytes .entry)))))) out r (now (block .entry)) (now (block .exit))
+        ⌝ }
+{
+    match heads::parse_head(code, front(bytes, count)) {
+        Head::Read(info) => put_info(out, block, info),
+        Head::Refused(refusal) => put_refusal(out, block, refusal.number()),
     }
-    put_refusal(out, block, number)
 }
 
 // The first place of the first count bytes at which a head can begin.
@@ -65,35 +71,32 @@ fn put_skip(
     }
 }
 
-fn put_refusal(out: Output, block: &mut [u8; BLOCK_LEN], number: u32) -> Output {
+fn put_refusal(out: Output, block: &mut [u8; BLOCK_LEN], number: u32) -> Output
+    ensures { λ r. ⌜ Put (refusedText number ++ (10 ∷ [])) out r (now (block .entry)) (now (block .exit)) ⌝ }
+{
     out.put_text(block, b"refused ")
         .put_decimal(block, number as u64)
         .put_byte(block, b'\n')
 }
 
-// Kind, length, samples, rate, channels and bit rate, a space between them.
-fn put_info(out: Output, block: &mut [u8; BLOCK_LEN], info: &[u8; 24]) -> Output {
-    let mut row = out.put_decimal(block, little_endian(info, 0) as u64);
-    for k in 1..NUMBERS {
-        row = row.put_byte(block, b' ')
-            .put_decimal(block, little_endian(info, 4 * k) as u64);
-    }
-    row.put_byte(block, b'\n')
+// Kind, length, samples, rate, channels and bit rate.
+fn put_info(out: Output, block: &mut [u8; BLOCK_LEN], info: AudioFrameInfo) -> Output
+    ensures { λ r. ⌜ Put (answerLine (headAnswer (Head.Read info))) out r (now (block .entry)) (now (block .exit)) ⌝ }
+{
+    let kind = info.kind;
+    let bit_rate = info.bit_rate;
+    let mut line = out.put_decimal(block, kind.number() as u64);
+    line = put_after(line, block, info.frame_len as u64);
+    line = put_after(line, block, info.samples_per_frame as u64);
+    line = put_after(line, block, info.sample_rate as u64);
+    line = put_after(line, block, info.channels as u64);
+    line = put_after(line, block, bit_rate.number() as u64);
+    line.put_byte(block, b'\n')
 }
 
-// The four bytes from place i on as a number, lowest first.
-fn little_endian(info: &[u8; 24], i: usize) -> u32
-    requires { ⌜ i + 4 ≤ 24 ⌝ }
-    ensures { λ r. ⌜ r ≡ numberAt (now (info .entry)) i ⌝ }
+// A number behind another, with a space between them.
+fn put_after(out: Output, block: &mut [u8; BLOCK_LEN], n: u64) -> Output
+    ensures { λ r. ⌜ Put (32 ∷ decimal n) out r (now (block .entry)) (now (block .exit)) ⌝ }
 {
-    wide(info[i])
-        + wide(info[i + 1]) * 256
-        + wide(info[i + 2]) * 65536
-        + wide(info[i + 3]) * 16777216
-}
-
-fn wide(b: u8) -> u32
-    ensures { λ r. ⌜ (r ≡ b) × (r ≤ 255) ⌝ }
-{
-    b as u32
+    out.put_byte(block, b' ').put_decimal(block, n)
 }

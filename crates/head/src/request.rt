@@ -1,5 +1,5 @@
-// What a line of input asks for. A head is its syntax code and its bytes, as `2 FF F1 50 80 00 E0 00`; a skip to the first place at which a
-// head can begin is `s 2 00 FF F1`; a duration is `d 1024 44100`.
+// What a line of input asks for. A head is its syntax code and its bytes, as `2 FF F1 50 80 00 E0 00`; a skip to the
+// first place at which a head can begin is `s 2 00 FF F1`; a duration is `d 1024 44100`.
 use text::Octet;
 use text::Place;
 use text::Short;
@@ -7,7 +7,8 @@ use text::octet_at;
 use text::parse_short;
 use text::skip;
 
-// The most bytes that a line may give: well above what any reader looks at, and several of the blocks by which the library skips places.
+// The most bytes that a line may give: well above what any reader looks at, and several of the blocks by which the
+// library skips places.
 pub const BYTES_MAX: usize = 128;
 
 // The most digits of a number.

@@ -15,14 +15,17 @@ use Rattle.replay.specs.declared.request.Lent.{Lent}
 use Rattle.replay.specs.declared.request.Lengths.{Lengths}
 use Rattle.replay.specs.declared.request.Lengths.the-variants.{Read}
 
-pub joined : {at most count next : ℕ} {word : Word} → word ≡ Joined count next → Joins at most word → (count ≤ most) × (at < next)
+pub joined : {at most count next : ℕ} {word : Word} → word ≡ Joined count next → Joins at most word
+    → (count ≤ most) × (at < next)
 joined {at} {most} e h = subst (Joins at most) e h
 
-pub lendable : {lent : Lent} {next : ℕ} {lengths : Lengths} → lengths ≡ Read lent next → LentWithin lengths → Lendable lent
+pub lendable : {lent : Lent} {next : ℕ} {lengths : Lengths} → lengths ≡ Read lent next → LentWithin lengths
+    → Lendable lent
 lendable e h = subst LentWithin e h
 
 -- a number that was read from a later place on
-pub later : {at start : ℕ} (most : ℕ) (text : List ℕ) (number : Number) → number ≡ numberAt most start text → at ≤ start → Behind at number
+pub later : {at start : ℕ} (most : ℕ) (text : List ℕ) (number : Number) → number ≡ numberAt most start text
+    → at ≤ start → Behind at number
 later most text (Value value next) e h = omega (arith, number-read _ most text refl e .behind)
 later most text NoNumber e h = tt
 

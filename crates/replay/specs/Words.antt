@@ -1,4 +1,5 @@
--- What is known of what was read from a line: bytes are within their limit, and a place is not before the place that was read from.
+-- What is known of what was read from a line: bytes are within their limit, and a place is not before the place that
+-- was read from.
 use Prim.Native.Nat.{ℕ, _≤_, _<_}
 use Rattle.text.specs.declared.number.Number.{Number}
 use Rattle.text.specs.declared.number.Number.the-variants.{Value, NoNumber}

@@ -1,5 +1,5 @@
-// Signed numbers and timestamps of a line. Each function reads from a place in the line on and answers what it read with the place behind
-// it, which its caller holds against what has to follow.
+// Signed numbers and timestamps of a line. Each function reads from a place in the line on and answers what it read
+// with the place behind it, which its caller holds against what has to follow.
 use splitter::Pts;
 use text::Number;
 use text::Place;
@@ -59,8 +59,8 @@ fn negative(n: u64) -> i64
     -1 - ((n - 1) as i64)
 }
 
-// A timestamp, or a minus sign alone where there is none. The sign of a number that does not fit is taken for one too; the digits behind
-// it then stand where none can.
+// A timestamp, or a minus sign alone where there is none. The sign of a number that does not fit is taken for one too;
+// the digits behind it then stand where none can.
 pub fn parse_pts(line: &[u8], at: usize) -> Stamp {
     match parse_signed(line, at) {
         Signed::Value { value, next } => Stamp::Read {

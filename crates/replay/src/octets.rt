@@ -1,5 +1,5 @@
-// The bytes of a line: words of hexadecimal digits, two for each byte, each with a space before it. A word may end with a count, as
-// `00FF*3`, by which its bytes are repeated.
+// The bytes of a line: words of hexadecimal digits, two for each byte, each with a space before it. A word may end with
+// a count, as `00FF*3`, by which its bytes are repeated.
 use text::Number;
 use text::Octet;
 use text::Place;
@@ -7,6 +7,7 @@ use text::octet_at;
 use text::parse_number;
 use text::skip;
 ghost use Prim.Native.Nat.{_+_, _≤_};
+ghost use Rattle.replay.specs.Bounds.{payloadMost};
 ghost use Rattle.replay.specs.Words.{bytesOf, Behind, Joins};
 
 // The most bytes that a line may give: some more than the splitter takes in one payload.
@@ -32,7 +33,7 @@ struct Octets {
 
 // The rest of the line from place at on.
 pub fn parse_bytes(line: &[u8], at: usize, bytes: &mut [u8; PAYLOAD_MAX], most: usize) -> Bytes
-    requires { ⌜ most ≤ 65600 ⌝ }
+    requires { ⌜ most ≤ payloadMost ⌝ }
     ensures { λ r. ⌜ bytesOf r ≤ most ⌝ }
 {
     let mut count = 0;
@@ -55,7 +56,7 @@ fn parse_word(
     count: usize,
     most: usize,
 ) -> Word
-    requires { ⌜ (count ≤ most) × (most ≤ 65600) ⌝ }
+    requires { ⌜ (count ≤ most) × (most ≤ payloadMost) ⌝ }
     ensures { λ r. ⌜ Joins at most r ⌝ }
 {
     let Place::At(start) = skip(line, at, b' ') else {
@@ -74,10 +75,10 @@ fn parse_word(
     }
 }
 
-// All octets from place at on, into the array from place to on. Those for which it has no room are counted alone: a word with a count of 0
-// may have any number of them.
+// All octets from place at on, into the array from place to on. Those for which it has no room are counted alone: a
+// word with a count of 0 may have any number of them.
 fn parse_octets(line: &[u8], at: usize, bytes: &mut [u8; PAYLOAD_MAX], to: usize) -> Octets
-    requires { ⌜ to ≤ 65600 ⌝ }
+    requires { ⌜ to ≤ payloadMost ⌝ }
     ensures { λ r. ⌜ at ≤ r .next ⌝ }
 {
     let mut len = 0;
@@ -105,7 +106,8 @@ fn parse_times(line: &[u8], at: usize) -> Number
     }
 }
 
-// Joins the len bytes that stand behind the first count, so many times. Where one of the times has no room, there are no bytes.
+// Joins the len bytes that stand behind the first count, so many times. Where one of the times has no room, there are
+// no bytes.
 fn join_repeated(
     bytes: &mut [u8; PAYLOAD_MAX],
     count: usize,
@@ -113,7 +115,7 @@ fn join_repeated(
     times: u64,
     most: usize,
 ) -> Bytes
-    requires { ⌜ (count ≤ most) × (most ≤ 65600) ⌝ }
+    requires { ⌜ (count ≤ most) × (most ≤ payloadMost) ⌝ }
     ensures { λ r. ⌜ bytesOf r ≤ most ⌝ }
 {
     let mut joined = count;
@@ -128,7 +130,7 @@ fn join_repeated(
 }
 
 fn copy_up(bytes: &mut [u8; PAYLOAD_MAX], from: usize, to: usize, len: usize)
-    requires { ⌜ (from ≤ to) × (to + len ≤ 65600) ⌝ }
+    requires { ⌜ (from ≤ to) × (to + len ≤ payloadMost) ⌝ }
 {
     for i in 0..len {
         bytes[to + i] = bytes[from + i];

@@ -82,8 +82,8 @@ pub fn put_answer(
     put_rest(after_buffers, block, answer.intact).put_byte(block, b'\n')
 }
 
-// The rows and the output bytes that were written, and the pending bytes, with a space behind each. Where the state says that more is
-// pending than the buffer has, all of it is shown.
+// The rows and the output bytes that were written, and the pending bytes, with a space behind each. Where the state
+// says that more is pending than the buffer has, all of it is shown.
 fn put_buffers(
     output: Output,
     block: &mut [u8; BLOCK_LEN],

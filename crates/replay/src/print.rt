@@ -1,11 +1,14 @@
 // Numbers, bytes and rows as text.
-use crate::buffers::ROW_LEN;
 use crate::buffers::ROWS_LEN;
+use numbers::magnitude;
+use splitter::ROW_WIDTH;
 use text::BLOCK_LEN;
 use text::Output;
 use text::high_digit;
 use text::low_digit;
 ghost use Prim.Native.Nat.{_+_, _*_, _≤_};
+ghost use Rattle.splitter.specs.Bounds.{rowWidth};
+ghost use Rattle.replay.specs.Bounds.{rowsLength};
 
 // A number, and the byte behind it.
 pub fn put_field(output: Output, block: &mut [u8; BLOCK_LEN], n: u64, end: u8) -> Output {
@@ -19,15 +22,6 @@ pub fn put_signed(output: Output, block: &mut [u8; BLOCK_LEN], x: i64) -> Output
             .put_decimal(block, magnitude(x));
     }
     output.put_decimal(block, magnitude(x))
-}
-
-// How far a number is from 0. A negative one goes by way of -1 - x, which fits also where x is -2^63.
-fn magnitude(x: i64) -> u64 {
-    if x >= 0 {
-        return x as u64;
-    }
-    let beyond = (-1 - x) as u64;
-    beyond + 1
 }
 
 // Two digits for each byte, or a dot where there is none.
@@ -55,11 +49,11 @@ pub fn put_rows(
     rows: &[i64; ROWS_LEN],
     count: usize,
 ) -> Output
-    requires { ⌜ count * 8 ≤ 84280 ⌝ }
+    requires { ⌜ count * rowWidth ≤ rowsLength ⌝ }
 {
     let mut text = output.put_byte(block, b'[');
     for k in 0..count {
-        text = put_row(put_separator(text, block, k), block, rows, k * ROW_LEN);
+        text = put_row(put_separator(text, block, k), block, rows, k * ROW_WIDTH);
     }
     text.put_byte(block, b']')
 }
@@ -74,10 +68,10 @@ fn put_separator(output: Output, block: &mut [u8; BLOCK_LEN], k: usize) -> Outpu
 
 // The row from place at on.
 fn put_row(output: Output, block: &mut [u8; BLOCK_LEN], rows: &[i64; ROWS_LEN], at: usize) -> Output
-    requires { ⌜ at + 8 ≤ 84280 ⌝ }
+    requires { ⌜ at + rowWidth ≤ rowsLength ⌝ }
 {
     let mut text = put_signed(output, block, rows[at]);
-    for i in 1..ROW_LEN {
+    for i in 1..ROW_WIDTH {
         text = put_signed(text.put_byte(block, b','), block, rows[at + i]);
     }
     text

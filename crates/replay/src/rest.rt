@@ -1,18 +1,18 @@
 // What a call may not change: the output and the rows past what it wrote.
 use crate::buffers::OUT_LEN;
-use crate::buffers::ROW_LEN;
 use crate::buffers::ROWS_LEN;
 use crate::buffers::are_rows_intact;
 use crate::buffers::fill_out;
 use crate::buffers::fill_rows;
 use crate::buffers::is_out_intact;
 use crate::request::Lent;
+use splitter::ROW_WIDTH;
 use splitter::Written;
 ghost use Prim.Native.Nat.{_≤_};
 ghost use Rattle.replay.specs.Bounds.{Fitting, Lendable};
 
-// To compare all of the buffers after each call would take most of the time. After most calls it is done up to this many numbers past what
-// was lent; the whole is compared after every 64th call, and at the end of the input.
+// To compare all of the buffers after each call would take most of the time. After most calls it is done up to this
+// many numbers past what was lent; the whole is compared after every 64th call, and at the end of the input.
 const MARGIN: usize = 64;
 
 // What a call says that it wrote, as far as it can be: no contract of the splitter is relied on here.
@@ -21,7 +21,7 @@ pub fn within(claimed: Written, lent: Lent) -> Written
     ensures { λ r. ⌜ Fitting r ⌝ }
 {
     Written {
-        rows: least(claimed.rows, lent.rows / ROW_LEN),
+        rows: least(claimed.rows, lent.rows / ROW_WIDTH),
         bytes: least(claimed.bytes, lent.out),
     }
 }
@@ -32,7 +32,8 @@ fn least(a: usize, b: usize) -> usize
     if a < b { a } else { b }
 }
 
-// Whether the output and the rows kept their pattern past what was written, and no more was said to be written than could be.
+// Whether the output and the rows kept their pattern past what was written, and no more was said to be written than
+// could be.
 pub fn is_rest_intact(
     claimed: Written,
     written: Written,
@@ -49,7 +50,7 @@ pub fn is_rest_intact(
     let out_end = reach(lent.out, OUT_LEN, sweep);
     let rows_end = reach(lent.rows, ROWS_LEN, sweep);
     is_out_intact(out, written.bytes, out_end)
-        && are_rows_intact(rows, written.rows * ROW_LEN, rows_end)
+        && are_rows_intact(rows, written.rows * ROW_WIDTH, rows_end)
 }
 
 // Up to where a buffer of len numbers is compared.
@@ -72,7 +73,7 @@ pub fn restore(written: Written, intact: bool, out: &mut [u8; OUT_LEN], rows: &m
 {
     if intact {
         fill_out(out, written.bytes);
-        fill_rows(rows, written.rows * ROW_LEN);
+        fill_rows(rows, written.rows * ROW_WIDTH);
     } else {
         fill_out(out, OUT_LEN);
         fill_rows(rows, ROWS_LEN);

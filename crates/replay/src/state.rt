@@ -1,4 +1,5 @@
-// The splitter's state as text: read from a line, where spaces stand between its parts, and written to an answer, where slashes do.
+// The splitter's state as text: read from a line, where spaces stand between its parts, and written to an answer, where
+// slashes do.
 use crate::number::Stamp;
 use crate::number::parse_pts;
 use crate::print::put_field;

@@ -1,14 +1,15 @@
 -- `measure` is safe and ends: the measure is the number of rounds that are left.
-use Prim.Native.Nat.{_-_}
+use Prim.Native.Nat.{_*_, _-_}
 use mathlib.Core.Path.{_≡_}
 use lib.ListN.{length}
 use borrow.Author.Needs.{needs}
+use Rattle.splitter.specs.Bounds.{rowWidth}
 use Rattle.bench.proofs.measure.measure.Statement.{statement}
 use Rattle.bench.proofs.measure.measure.Tie as tie
 
 abbrev Inv-loop : tie.InvT-loop
 Inv-loop stream first size rounds pending₀ out₀ rows₀ totals₀ counter₀ pending out rows totals counter =
-    (length pending ≡ 8200) × (length out ≡ 73800) × (length rows ≡ 84280)
+    (length pending ≡ 8200) × (length out ≡ 73800) × (length rows ≡ rowWidth * 10535)
 
 abbrev μ-loop : tie.MeasureT-loop
 μ-loop stream first size rounds pending₀ out₀ rows₀ totals₀ counter₀ pending out rows totals counter = rounds - counter

@@ -1,4 +1,5 @@
--- `parse_line_end` is safe, and what it answers is usable: a payload is not empty, and the stream begins within the input.
+-- `parse_line_end` is safe, and what it answers is usable: a payload is not empty, and the stream begins within the
+-- input.
 use native.Mathlib.Omega.{arith}
 use Rattle.text.proofs.Numbers.{found}
 use borrow.Author.Needs.{needs}

@@ -3,6 +3,7 @@ use mathlib.Core.Path.{subst}
 use Prim.Native.Nat.{ℕ, _-_}
 use lib.ListN.{length, take, drop}
 use Rattle.sheet.specs.Step.{lent}
+use Rattle.sheet.proofs.Stepping.{step-fields}
 use Rattle.cutsheet.specs.Bounds.{Within}
 use Rattle.cutsheet.proofs.Room.{step-room, rest-length}
 use Rattle.cutsheet.proofs.Glue.{passed-from}
@@ -41,13 +42,15 @@ returns c =
     let args = start .args in
     let text = args .text .now in
     let rest = take (length text - args .at) (drop (args .at) text) in
+    let gives = step-fields (cut .cut .ensures) in
     let last = cut .cut .last .1 .1 in (
       subst (λ (most : ℕ). Within most (cut .cut .result .answer)) (rest-length text (args .at))
           (step-room (cut .cut .result .answer) (args .sheet) (args .payload .now)
           (lent (args .pending .now) (args .out .now) (args .rows .now) rest)
-          (cut .cut .ensures .0) (cut .cut .ensures .1 .1 .1 .1 .1) (cut .cut .kept .1 .1 .1 .1 .1 .0)),
-      passed-from (args .sheet) (args .payload .now) (lent (args .pending .now) (args .out .now) (args .rows .now) text) (args .at)
-          (cut .cut .result) (last .0) (last .1 .0) (last .1 .1 .0) (last .1 .1 .1 .0) (start .pre .1 .0) (cut .cut .ensures),
+          (gives .0) (gives .1 .1 .1 .1 .1) (cut .cut .kept .1 .1 .1 .1 .1 .0)),
+      passed-from (args .sheet) (args .payload .now)
+          (lent (args .pending .now) (args .out .now) (args .rows .now) text) (args .at)
+          (cut .cut .result) (last .0) (last .1 .0) (last .1 .1 .0) (last .1 .1 .1 .0) (start .pre .1 .0) gives,
     )
 
 pub cut-from-spec : {M : Type 1} → statement M

@@ -4,6 +4,7 @@ use Prim.Native.Nat.{ℕ, _-_}
 use native.Mathlib.Omega.{arith}
 use lib.ListN.{length, take, drop}
 use Rattle.sheet.specs.Sheet.{endOf}
+use Rattle.sheet.proofs.Stepping.{end-fields}
 use Rattle.sheet.specs.declared.sheet.SheetAnswer.the-variants.{Written}
 use Rattle.cutsheet.specs.Bounds.{Within}
 use Rattle.cutsheet.proofs.Room.{finish-room, finished, rest-length, count-room}
@@ -14,20 +15,23 @@ use Rattle.cutsheet.proofs.session.finish_from.Tie as tie
 
 -- the last line ends within the text
 fits : (c : tie.After-finish)
-    → Within (length (c .before .before .before .args .text .now) - c .before .before .before .args .at) (c .finish .result)
+    → Within (length (c .before .before .before .args .text .now) - c .before .before .before .args .at)
+    (c .finish .result)
 fits c =
     let args = c .before .before .before .args in
     let text = args .text .now in
     subst (λ (most : ℕ). Within most (c .finish .result)) (rest-length text (args .at))
     (finish-room (c .finish .result) (args .sheet) (take (length text - args .at) (drop (args .at) text))
-    (c .finish .ensures .0) (c .finish .ensures .1) (c .finish .kept .1 .0))
+    (end-fields (c .finish .ensures) .0) (end-fields (c .finish .ensures) .1) (c .finish .kept .1 .0))
 
 -- the last line is written
-whole : (c : tie.After-finish) → c .finish .result ≡ Written (length (endOf (c .before .before .before .args .sheet .splitter)))
+whole : (c : tie.After-finish)
+    → c .finish .result ≡ Written (length (endOf (c .before .before .before .args .sheet .splitter)))
 whole c =
     let args = c .before .before .before .args in
     let text = args .text .now in
-    finished (c .finish .result) (args .sheet) (take (length text - args .at) (drop (args .at) text)) (c .finish .ensures .0)
+    finished (c .finish .result) (args .sheet) (take (length text - args .at) (drop (args .at) text))
+    (end-fields (c .finish .ensures) .0)
     (omega (arith, rest-length text (args .at)))
 
 sub-finish : tie.Need-sub-finish
@@ -61,7 +65,8 @@ returns c =
     let count : c .before .count .given .0 .0 ≡ length (endOf (start .args .sheet .splitter)) =
     cc (c .before .count .given .1, whole finish) in (
       (omega arith, omega (arith, count-room (c .before .count .given .1) (fits finish))),
-      end-from (start .args .sheet) (start .args .text .now) (finish .finish .last .1 .0) (start .args .at) (start .pre) (finish .finish .ensures .1),
+      end-from (start .args .sheet) (start .args .text .now) (finish .finish .last .1 .0) (start .args .at)
+          (start .pre) (end-fields (finish .finish .ensures) .1),
     )
 
 same-length-2 : tie.Need-same-length-2

@@ -2,6 +2,7 @@
 use mathlib.Core.Path.{sym, ap}
 use mathlib.Core.Bool.{Bool, cond}
 use Prim.Native.Nat.{_-_, _%_}
+use Rattle.sheet.specs.Sheet.{payloadSize}
 use borrow.Author.Needs.{needs}
 use Rattle.cutsheet.proofs.session.usable.Statement.{statement}
 use Rattle.cutsheet.proofs.session.usable.Tie as tie
@@ -12,7 +13,7 @@ sub-result c = search needs
 returns : tie.Need-returns
 returns c =
     let len = c .before .args .filled .len in
-    ap (λ (failed : Bool). cond failed (len - len % 4096) len) (sym (c .if1 .taken))
+    ap (λ (failed : Bool). cond failed (len - len % payloadSize) len) (sym (c .if1 .taken))
 
 returns-2 : tie.Need-returns-2
 returns-2 c = search needs

@@ -18,7 +18,10 @@ returns : tie.Need-returns
 returns c = search needs
 
 sub-if1 : tie.Need-sub-if1
-sub-if1 c = omega (arith, short-read _ _ (c .before .value .given .1) (c .before .before .before .parse-short .ensures) .behind)
+sub-if1 c = omega (
+  arith,
+  short-read _ _ (c .before .value .given .1) (c .before .before .before .parse-short .ensures) .behind,
+)
 
 returns-2 : tie.Need-returns-2
 returns-2 c = search needs

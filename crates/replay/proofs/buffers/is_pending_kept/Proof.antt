@@ -1,5 +1,6 @@
 -- `is_pending_kept` is safe and ends.
 use Prim.Native.Nat.{_-_}
+use Rattle.replay.specs.Bounds.{pendingLength}
 use borrow.Author.Needs.{needs}
 use Rattle.replay.proofs.buffers.is_pending_kept.Statement.{statement}
 use Rattle.replay.proofs.buffers.is_pending_kept.Tie as tie
@@ -8,7 +9,7 @@ abbrev Inv-loop : tie.InvT-loop
 Inv-loop kept pending start same₀ i₀ same i = Unit {0}
 
 abbrev μ-loop : tie.MeasureT-loop
-μ-loop kept pending start same₀ i₀ same i = 8200 - i
+μ-loop kept pending start same₀ i₀ same i = pendingLength - i
 
 loop-holds : tie.Need-loop-holds Inv-loop μ-loop
 loop-holds c = search needs

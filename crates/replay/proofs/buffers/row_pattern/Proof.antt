@@ -1,5 +1,5 @@
 -- `row_pattern` is safe: the number fits 64 bits.
-use Rattle.splitter.proofs.Signed.{minus-fits}
+use Rattle.numbers.proofs.Signed.{minus-fits}
 use borrow.Author.Needs.{needs}
 use Rattle.replay.proofs.buffers.row_pattern.Statement.{statement}
 use Rattle.replay.proofs.buffers.row_pattern.Tie as tie

@@ -1,5 +1,5 @@
 -- `negative` is safe: the number fits 64 bits.
-use Rattle.splitter.proofs.Signed.{minus-fits}
+use Rattle.numbers.proofs.Signed.{minus-fits}
 use Prim.Native.Nat.{_-_}
 use borrow.Author.Needs.{needs}
 use Rattle.replay.proofs.number.negative.Statement.{statement}

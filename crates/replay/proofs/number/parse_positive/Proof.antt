@@ -20,7 +20,12 @@ returns c = search needs
 cast-t6 : tie.Need-cast-t6
 cast-t6 c =
     let value = c .before in
-    record { sfits = omega (arith, number-read _ _ _ (value .value .given .1) (value .before .before .parse-number .ensures) .within) }
+    record {
+      sfits = omega (
+        arith,
+        number-read _ _ _ (value .value .given .1) (value .before .before .parse-number .ensures) .within,
+      );
+    }
 
 returns-2 : tie.Need-returns-2
 returns-2 c = search needs

@@ -21,7 +21,10 @@ enum-told c = search needs
 returns : tie.Need-returns
 returns c =
     let digits = c .before .before in
-    later _ _ (c .parse-number .result) (c .parse-number .ensures) (omega (arith, found _ _ _ (digits .digits .given .1) (digits .before .before .skip .ensures) .behind))
+    later _ _ (c .parse-number .result) (c .parse-number .ensures) (omega (
+      arith,
+      found _ _ _ (digits .digits .given .1) (digits .before .before .skip .ensures) .behind,
+    ))
 
 returns-2 : tie.Need-returns-2
 returns-2 c = search needs

@@ -53,8 +53,10 @@ returns-4 c =
     let octets = times .before .before .before .before .before in
     let start = octets .before .before .before in
     let begun = found _ _ _ (start .start .given .1) (start .before .before .skip .ensures) .behind in
-    let timed = behind (times .times .given .1) (times .before .before .parse-times .ensures) in
-    (omega (arith, ap bytesOf (c .before .count .given .1), c .before .before .before .join-repeated .ensures), omega (arith, octets .parse-octets .ensures))
+    let timed = behind (times .times .given .1) (times .before .before .parse-times .ensures) in (
+      omega (arith, ap bytesOf (c .before .count .given .1), c .before .before .before .join-repeated .ensures),
+      omega (arith, octets .parse-octets .ensures),
+    )
 
 returns-5 : tie.Need-returns-5
 returns-5 c = search needs

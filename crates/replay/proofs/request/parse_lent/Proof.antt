@@ -46,7 +46,8 @@ returns-4 c =
     let out = rows .before .before .before .before in
     let pending = out .before .before .before .before in
     record {
-      pending = after-read _ _ _ _ (pending .pending .given .1) (pending .before .before .number-after .ensures) .within;
+      pending = after-read _ _ _ _ (pending .pending .given .1)
+          (pending .before .before .number-after .ensures) .within;
       out = after-read _ _ _ _ (out .out .given .1) (out .before .before .number-after2 .ensures) .within;
       rows = after-read _ _ _ _ (rows .rows .given .1) (rows .before .before .number-after3 .ensures) .within;
     }

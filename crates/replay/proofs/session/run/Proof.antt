@@ -4,10 +4,12 @@ use Rattle.replay.proofs.session.run.Statement.{statement}
 use Rattle.replay.proofs.session.run.Tie as tie
 
 abbrev Inv-loop : tie.InvT-loop
-Inv-loop text₀ block₀ payload₀ pending₀ out₀ rows₀ session₀ turns₀ text block payload pending out rows session turns = Unit {0}
+Inv-loop text₀ block₀ payload₀ pending₀ out₀ rows₀ session₀ turns₀ text block payload pending out rows session turns =
+    Unit {0}
 
 abbrev μ-loop : tie.MeasureT-loop
-μ-loop text₀ block₀ payload₀ pending₀ out₀ rows₀ session₀ turns₀ text block payload pending out rows session turns = turns
+μ-loop text₀ block₀ payload₀ pending₀ out₀ rows₀ session₀ turns₀ text block payload pending out rows session turns =
+    turns
 
 fill-out-requires : tie.Need-fill-out-requires Inv-loop μ-loop
 fill-out-requires c κs = search needs

@@ -1,5 +1,5 @@
--- `Session::cut_block` cuts the block's payloads one after the other, ends, and keeps the output within the text. The measure is what is left
--- of the block.
+-- `Session::cut_block` cuts the block's payloads one after the other, ends, and keeps the output within the text. The
+-- measure is what is left of the block.
 use Prim.Native.Nat.{_-_, _≤_}
 use lib.ListN.{length}
 use Rattle.sheet.specs.Step.{Lent, lent}
@@ -13,7 +13,8 @@ use Rattle.cutsheet.proofs.session.Session.cut_block.Tie as tie
 abbrev Inv-loop : tie.InvT-loop
 Inv-loop block pending₀ out₀ rows₀ text₀ session₀ at₀ pending out rows text session at =
     (at ≤ length block)
-    × (Bounded (session .output) × Reached session₀ (lent pending₀ out₀ rows₀ text₀) block at session (lent pending out rows text))
+    × (Bounded (session .output) × Reached session₀ (lent pending₀ out₀ rows₀ text₀) block at session
+    (lent pending out rows text))
 
 abbrev μ-loop : tie.MeasureT-loop
 μ-loop block pending₀ out₀ rows₀ text₀ session₀ at₀ pending out rows text session at = length block - at
@@ -54,8 +55,10 @@ loop-again c =
       search needs,
       (
         search needs,
-        reach-next (start .args .self) (l .loop .session) (was start) (now-at l) (start .args .block .now) (l .loop .at) (l .loop .inv .1 .1)
-            (end .result) (c .before .before .before .before .before .before .before .before .loop-test .taken) (end .ensures)
+        reach-next (start .args .self) (l .loop .session) (was start) (now-at l) (start .args .block .now)
+            (l .loop .at) (l .loop .inv .1 .1)
+            (end .result) (c .before .before .before .before .before .before .before .before .loop-test .taken)
+            (end .ensures)
             (c .before .before .before .before .before .before .before .if1 .taken) (c .cut-payload .result)
             (lent (last .0) (last .1 .0) (last .1 .1 .0) (last .1 .1 .1 .0)) (c .cut-payload .ensures .1),
       ),
@@ -66,7 +69,8 @@ returns c =
     let l = c .before .before in
     let start = l .before .before in
     let cut =
-    reach-closed (start .args .self) (l .loop .session) (was start) (now-at l) (start .args .block .now) (l .loop .at) (l .loop .inv .1 .1)
+    reach-closed (start .args .self) (l .loop .session) (was start) (now-at l) (start .args .block .now) (l .loop .at)
+    (l .loop .inv .1 .1)
     (c .if1 .left) in
     (search needs, (cut, payloads-state cut (payloads-small (start .args .block .now))))
 
@@ -75,7 +79,8 @@ returns-2 c =
     let l = c .before in
     let start = l .before .before in
     let cut =
-    reach-end (start .args .self) (l .loop .session) (was start) (now-at l) (start .args .block .now) (l .loop .at) (l .loop .inv .1 .1)
+    reach-end (start .args .self) (l .loop .session) (was start) (now-at l) (start .args .block .now) (l .loop .at)
+    (l .loop .inv .1 .1)
     (c .loop-test .left) in
     (search needs, (cut, payloads-state cut (payloads-small (start .args .block .now))))
 

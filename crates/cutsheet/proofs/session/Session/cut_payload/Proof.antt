@@ -1,8 +1,10 @@
--- `Session::cut_payload` is one step, its lines behind the output for which there is room, and keeps the output within the text.
+-- `Session::cut_payload` is one step, its lines behind the output for which there is room, and keeps the output within
+-- the text.
 use mathlib.Core.Path.{ap}
 use Prim.Native.Nat.{_-_, _≤_}
 use native.Mathlib.Omega.{arith}
 use Rattle.sheet.specs.Step.{Lent, lent}
+use Rattle.cutsheet.specs.Bounds.{textLength}
 use Rattle.cutsheet.specs.Glue.{Sized}
 use Rattle.cutsheet.specs.declared.session.Session.{Session}
 use Rattle.cutsheet.proofs.Room.{count-room}
@@ -19,18 +21,21 @@ begin k = room k .before .before .before .before
 
 -- what the buffers held, and what they hold
 abbrev was : tie.After-cut-from → Lent
-was k = lent (begin k .args .pending .now) (begin k .args .out .now) (begin k .args .rows .now) (begin k .args .text .now)
+was k =
+    lent (begin k .args .pending .now) (begin k .args .out .now) (begin k .args .rows .now) (begin k .args .text .now)
 
 abbrev is : tie.After-cut-from → Lent
 is k =
-    lent (k .cut-from .last .1 .1 .0) (k .cut-from .last .1 .1 .1 .0) (k .cut-from .last .1 .1 .1 .1 .0) (k .cut-from .last .1 .1 .1 .1 .1 .0)
+    lent (k .cut-from .last .1 .1 .0) (k .cut-from .last .1 .1 .1 .0) (k .cut-from .last .1 .1 .1 .1 .0)
+    (k .cut-from .last .1 .1 .1 .1 .1 .0)
 
 sized : (k : tie.After-cut-from) → Sized (was k)
 sized k = record { out = search needs; rows = search needs; text = search needs }
 
 -- the lines end within the text
 fits : (c : tie.After-answer)
-    → c .answer .given .0 .0 ≤ 262144 - c .before .before .before .before .before .before .before .before .before .with-room .result .len
+    → c .answer .given .0 .0 ≤ textLength -
+    c .before .before .before .before .before .before .before .before .before .with-room .result .len
 fits c = omega (arith, count-room (c .answer .given .1) (c .before .before .before .cut-from .ensures .0))
 
 with-room-requires : tie.Need-with-room-requires
@@ -52,8 +57,10 @@ returns : tie.Need-returns
 returns c =
     let k = c .before .before .before .before in (
       omega (arith, ap (λ (s : Session). s .output .len) (c .closed .ensures), room k .with-room .ensures .0),
-      payload-refused (begin k .args .self) (begin k .args .payload .now) (was k) (is k) (room k .with-room .result) (k .cut-from .result)
-          (room k .with-room .ensures .1) (k .cut-from .ensures .1) (sized k) (c .before .enum-told .given .0 .0) (c .before .enum-told .given .1)
+      payload-refused (begin k .args .self) (begin k .args .payload .now) (was k) (is k) (room k .with-room .result)
+          (k .cut-from .result)
+          (room k .with-room .ensures .1) (k .cut-from .ensures .1) (sized k) (c .before .enum-told .given .0 .0)
+          (c .before .enum-told .given .1)
           (c .closed .result) (c .closed .ensures),
     )
 
@@ -65,7 +72,8 @@ returns-2 c =
     let k = c .before .before .before .before .before in
     let answer = c .before .before .answer .given in (
       omega (arith, fits (c .before .before)),
-      payload-written (begin k .args .self) (begin k .args .payload .now) (was k) (is k) (room k .with-room .result) (k .cut-from .result)
+      payload-written (begin k .args .self) (begin k .args .payload .now) (was k) (is k) (room k .with-room .result)
+          (k .cut-from .result)
           (room k .with-room .ensures .1) (k .cut-from .ensures .1) (sized k) (answer .0 .0) (answer .1),
     )
 

@@ -17,9 +17,10 @@ report-read-requires c κs = search needs
 
 returns : tie.Need-returns
 returns c =
-    let args = c .before .before .before .before .before .before .before .args in
+    let failed = c .before .before .before .before .before .before in
+    let args = failed .before .before .args in
     subst (λ (failed : Bool). EndPut failed (args .self) (args .text .now) (args .text .now))
-    (sym (c .before .before .before .before .before .if1 .taken)) refl
+    (sym (failed .if1 .taken)) refl
 
 with-room-requires : tie.Need-with-room-requires
 with-room-requires c κs = search needs
@@ -35,7 +36,7 @@ report-write-requires-2 c κs = search needs
 
 returns-2 : tie.Need-returns-2
 returns-2 c =
-    let put = c .before .before .before .before in
+    let put = c .before .before .before .before .before in
     let room = put .before .before .before .with-room in
     let args = put .before .before .before .before .before .before .before .args in
     subst (λ (failed : Bool). EndPut failed (args .self) (args .text .now) (put .finish-from .last .1 .0))

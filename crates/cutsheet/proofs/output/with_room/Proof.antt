@@ -1,9 +1,9 @@
--- `Output::with_room` has the output written only where there is too little room.
+-- `with_room` has the output written only where there is too little room.
 use mathlib.Core.Path.{refl}
 use native.Mathlib.Omega.{arith}
 use borrow.Author.Needs.{needs}
-use Rattle.cutsheet.proofs.output.Output.with_room.Statement.{statement}
-use Rattle.cutsheet.proofs.output.Output.with_room.Tie as tie
+use Rattle.cutsheet.proofs.output.with_room.Statement.{statement}
+use Rattle.cutsheet.proofs.output.with_room.Tie as tie
 
 sub-if1 : tie.Need-sub-if1
 sub-if1 c = search needs
@@ -12,8 +12,10 @@ written-requires : tie.Need-written-requires
 written-requires c κs = search needs
 
 returns : tie.Need-returns
-returns c =
-    (omega (arith, c .written .ensures .none), record { kept = λ h. absurd (omega arith); emptied = λ h. c .written .ensures })
+returns c = (
+  omega (arith, c .written .ensures .len),
+  record { kept = λ h. absurd (omega arith); emptied = λ h. c .written .ensures },
+)
 
 returns-2 : tie.Need-returns-2
 returns-2 c = (omega arith, record { kept = λ h. refl; emptied = λ h. absurd (omega arith) })

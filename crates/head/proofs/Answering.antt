@@ -1,0 +1,65 @@
+-- The parts of an answer's line, put one behind the other. Assumes nothing.
+use mathlib.Core.Path.{_≡_, refl, sym, _∙_}
+use mathlib.Core.List.{List, [], _∷_, _++_, append-assoc, append-nil}
+use Prim.Native.Nat.{ℕ}
+use Rattle.heads.specs.Numbers.{kindNumber, bitRateNumber, refusalNumber, headAnswer}
+use Rattle.heads.specs.Syntax.{headOfCode}
+use Rattle.heads.specs.declared.info.AudioFrameInfo.{AudioFrameInfo}
+use Rattle.heads.specs.declared.info.Head.{Head}
+use Rattle.heads.specs.declared.info.Head.the-variants.{Read, Refused}
+use Rattle.heads.specs.declared.info.Refusal.{Refusal}
+use Rattle.heads.specs.declared.info.Refusal.the-variants.{ShortHead, NoSyncWord, Unsupported, ReservedCode, BitRateIndex, FrameLength, SyntaxCode}
+use Rattle.numbers.specs.Decimal.{decimal}
+use Rattle.text.specs.Output.{Put}
+use Rattle.text.specs.declared.output.Output.{Output}
+use Rattle.text.proofs.Blocks.{put-both}
+use Rattle.head.specs.Answer.{further, refusedText, answerText, answerLine}
+
+-- numbers put behind a text, one after the other
+abbrev behind : List ℕ → List ℕ → List ℕ
+behind text [] = text
+behind text (n ∷ ns) = behind (text ++ (32 ∷ decimal n)) ns
+
+all-behind : (text ns : List ℕ) → behind text ns ≡ text ++ further ns
+all-behind text [] = sym (append-nil text)
+all-behind text (n ∷ ns) = all-behind (text ++ (32 ∷ decimal n)) ns ∙ append-assoc text (32 ∷ decimal n) (further ns)
+
+-- the six values of a head that reads, whatever the output and the block are between them
+pub info-line : (i : AudioFrameInfo)
+    (kind bits : ℕ) {o o1 o2 o3 o4 o5 o6 last : Output} {b b1 b2 b3 b4 b5 b6 exit : List ℕ}
+    → kind ≡ kindNumber (i .kind) → bits ≡ bitRateNumber (i .«bit_rate»)
+    → Put (decimal kind) o o1 b b1 → Put (32 ∷ decimal (i .«frame_len»)) o1 o2 b1 b2 → Put
+    (32 ∷ decimal (i .«samples_per_frame»)) o2 o3 b2 b3
+    → Put (32 ∷ decimal (i .«sample_rate»)) o3 o4 b3 b4 → Put (32 ∷ decimal (i .channels)) o4 o5 b4 b5 → Put
+    (32 ∷ decimal bits) o5 o6 b5 b6
+    → Put (10 ∷ []) o6 last b6 exit → Put (answerLine (headAnswer (Read i))) o last b exit
+info-line i kind bits ek eb p p1 p2 p3 p4 p5 p6 =
+    rw (
+      ← ek,
+      ← eb,
+      ← all-behind (decimal kind) (i .«frame_len» ∷ i .«samples_per_frame» ∷ i .«sample_rate» ∷ i .channels ∷ bits ∷
+          []),
+    )
+    (put-both (put-both (put-both (put-both (put-both (put-both p p1) p2) p3) p4) p5) p6)
+
+-- every refusal has a number above 0
+told : (g : Refusal) → answerText (refusalNumber g) [] ≡ refusedText (refusalNumber g)
+told ShortHead = refl
+told NoSyncWord = refl
+told Unsupported = refl
+told ReservedCode = refl
+told BitRateIndex = refl
+told FrameLength = refl
+told SyntaxCode = refl
+
+pub refused-line : (g : Refusal) (n : ℕ) {o last : Output} {b exit : List ℕ} → n ≡ refusalNumber g
+    → Put (refusedText n ++ (10 ∷ [])) o last b exit
+    → Put (answerLine (headAnswer (Refused g))) o last b exit
+refused-line g n e p = rw (told g, ← e) p
+
+-- the head is that of the bytes
+pub head-line : (code : ℕ) (lent bytes : List ℕ) (x h : Head) {o last : Output} {b exit : List ℕ} → lent ≡ bytes
+    → x ≡ headOfCode code lent → x ≡ h
+    → Put (answerLine (headAnswer h)) o last b exit → Put
+    (answerLine (headAnswer (headOfCode code bytes))) o last b exit
+head-line code lent bytes x h e is case p = rw (← e, ← is, case) p
