@@ -1,21 +1,21 @@
 -- The definitions of AC-3's and E-AC-3's heads from their bytes. Assumes nothing.
 use mathlib.Core.Path.{_≡_, refl, sym, _∙_}
-use mathlib.Core.Bool.{Bool, true, false, not, cond}
+use mathlib.Core.Bool.{Bool, true, false, not, cond, _&&_}
 use mathlib.Core.List.{List}
 use Prim.Native.Nat.{ℕ, _≤_, _<_, _+_, _-_, _*_, _/_, _%_, _^_}
 use native.Mathlib.Nat.{add-zero}
 use native.Mathlib.Omega.{arith}
-use lib.Dec.{leb, eqb, leb→le, eqb→eq}
+use lib.Dec.{eqb, leb}
 use lib.ListN.{length, getD}
 use lib.Pow.{field, mod-mod-pow}
-use borrow.Author.Tests.{lt-ltb, le-ltb, eq-eqb, ne-eqb}
-use Rattle.heads.proofs.Below.{below}
+use borrow.Author.Tests.{lt-ltb, le-ltb, lt-leb, leb-true, eq-eqb, ne-eqb, eqb-true}
 use Rattle.heads.specs.Bits.{Bytes, number, total}
 use Rattle.heads.specs.Judge.{refuseIf}
 use Rattle.heads.specs.declared.fields.Ac3Fields.{Ac3Fields}
 use Rattle.heads.specs.Ac3.{ac3Fields, ac3Judged, acmodOf, ac3TailWidths, cmixlevBits, surmixlevBits, dsurmodBits, mixBits, ac3Read, ac3Words, ac3Kbps, ac3Rates, nfchans}
 use Rattle.heads.specs.Eac3.{eac3Fields, eac3Judged, eac3Read, fscodOf, eac3TailWidths, fscod2Bits, numblkscodBits, eac3Rates, eac3Blocks}
-use Rattle.heads.specs.A52.{a52Head, byBsid, ac3Syncword}
+use Rattle.heads.specs.A52.{a52Head, byBsid, isAc3, isEac3, ac3Syncword}
+use Rattle.heads.proofs.Pack.{both-true}
 use Rattle.heads.specs.declared.info.Head.{Head}
 use Rattle.heads.specs.declared.info.Head.the-variants.{Refused}
 use Rattle.heads.specs.declared.info.Refusal.the-variants.{ShortHead, NoSyncWord, ReservedCode}
@@ -25,19 +25,25 @@ unfolding a52Head refuseIf
 short b p = rw (lt-ltb (length b) 6 p)
 
 -- of the five bits after acmod, at most four come before lfeon, and the widths divide all five
-fourTest : ℕ → Bool
-fourTest k = leb (mixBits k) 4
+pub four : (k : ℕ) → mixBits k ≤ 4
+unfolding mixBits cmixlevBits surmixlevBits dsurmodBits
+four k = go (eqb k 2) refl
+  where
+    two : (t : Bool) → cond t 2 0 ≤ 2
+    two true = omega arith
+    two false = omega arith
 
-pub four : (k : ℕ) → k < 8 → mixBits k ≤ 4
-unfolding fourTest mixBits cmixlevBits surmixlevBits dsurmodBits
-four k h = leb→le (mixBits k) 4 (below 8 fourTest tt k h)
+    go : (t : Bool) → eqb k 2 ≡ t → mixBits k ≤ 4
+    go true e = rw (eqb-true k 2 e) (omega arith)
+    go false e = rw e (omega (
+      arith,
+      two (eqb (k % 2) 1 && not (eqb k 1)),
+      two (eqb (k / 4 % 2) 1),
+    ))
 
-fiveTest : ℕ → Bool
-fiveTest k = eqb (total (ac3TailWidths k)) 5
-
-pub ac3-tail : (k : ℕ) → k < 8 → total (ac3TailWidths k) ≡ 5
-unfolding fiveTest ac3TailWidths mixBits cmixlevBits surmixlevBits dsurmodBits
-ac3-tail k h = eqb→eq (total (ac3TailWidths k)) 5 (below 8 fiveTest tt k h)
+pub ac3-tail : (k : ℕ) → total (ac3TailWidths k) ≡ 5
+unfolding ac3TailWidths mixBits
+ac3-tail k = omega (arith, four k)
 
 -- whichever of fscod2 and numblkscod there is, fourteen bits follow fscod
 pub eac3-tail : (k : ℕ) → total (eac3TailWidths k) ≡ 14
@@ -134,7 +140,7 @@ ac3ByBytes b =
 
 module _ (b : List ℕ) (byte : Bytes b) where
   five : total (ac3TailWidths (acmodOf (number 7 b))) ≡ 5
-  five = ac3-tail (acmodOf (number 7 b)) (omega arith)
+  five = ac3-tail (acmodOf (number 7 b))
 
   size-rate-is : ac3Fields b .fscod ≡ getD b 4 0 / 64
   unfolding Bytes number
@@ -181,6 +187,25 @@ module _ (b : List ℕ) (byte : Bytes b) where
         dsurmod = f .dsurmod;
         lfeon = sym lfe-is i;
       })
+
+-- a head whose bsid is AC-3's, or E-AC-3's, is judged by its fields alone once its seven or six bytes are there
+pub ac3-by-fields : (b : List ℕ) → Bytes b → 7 ≤ length b → isAc3 (ac3Fields b .bsid) ≡ true
+    → a52Head b ≡ refuseIf (not (eqb (ac3Fields b .syncword) ac3Syncword)) NoSyncWord (ac3Judged 7 (ac3Fields b))
+unfolding a52Head byBsid ac3Judged refuseIf
+ac3-by-fields b byte l is =
+    let six : 6 ≤ length b = omega arith in
+    rw (le-ltb (length b) 6 six, ← same-syncword b byte, ← same-bsid b byte, is, le-ltb (length b) 7 l)
+
+pub ac3-not-eac3 : (bsid : ℕ) → isAc3 bsid ≡ true → isEac3 bsid ≡ false
+ac3-not-eac3 bsid e = rw (lt-leb 11 bsid (omega (arith, leb-true bsid 8 e)))
+
+pub eac3-not-ac3 : (bsid : ℕ) → isEac3 bsid ≡ true → isAc3 bsid ≡ false
+eac3-not-ac3 bsid e = lt-leb bsid 8 (omega (arith, leb-true 11 bsid (both-true (leb 11 bsid) (leb bsid 16) e .0)))
+
+pub eac3-by-fields : (b : List ℕ) → 6 ≤ length b → isEac3 (eac3Fields b .bsid) ≡ true
+    → a52Head b ≡ refuseIf (not (eqb (eac3Fields b .syncword) ac3Syncword)) NoSyncWord (eac3Judged (eac3Fields b))
+unfolding a52Head byBsid refuseIf
+eac3-by-fields b l is = rw (le-ltb (length b) 6 l, eac3-not-ac3 (eac3Fields b .bsid) is, is)
 
 -- what is reported of an AC-3 frame, from what each part was found to be
 pub reported : (fscod size acmod last mix words kbps channels : ℕ) → words ≡ ac3Words fscod size → kbps ≡ ac3Kbps size

@@ -17,6 +17,11 @@ pub short : (b : List ℕ) → length b < 7 → Refused ShortHead ≡ adtsHead b
 unfolding adtsHead refuseIf
 short b p = rw (lt-ltb (length b) 7 p)
 
+-- a head whose seven bytes are there is judged by its fields alone
+pub by-fields : (b : List ℕ) → 7 ≤ length b → adtsHead b ≡ adtsJudged adtsRates (adtsFields b)
+unfolding adtsHead refuseIf
+by-fields b l = rw (le-ltb (length b) 7 l)
+
 -- the fields that are judged, from the bytes
 abbrev pub adtsByBytes : List ℕ → AdtsFields
 adtsByBytes b =

@@ -14,6 +14,8 @@ pub mod MpegLaws
 pub mod A52Laws
 pub mod SyntaxLaws
 pub mod HostLaws
+pub mod Packing
+pub mod WriteLaws
 pub mod Skip
 -- of the definitions themselves: what a reader and the layers above may want to know
 pub mod Widths
@@ -22,4 +24,7 @@ pub mod Local
 pub mod Reported
 pub mod Reached
 pub mod Order
+pub mod WriteCases
 pub mod Promise
+pub mod Written
+pub mod Rewritten

@@ -20,6 +20,11 @@ pub short : (b : List ℕ) → length b < 4 → Refused ShortHead ≡ mpegHead b
 unfolding mpegHead refuseIf
 short b p = rw (lt-ltb (length b) 4 p)
 
+-- a head whose four bytes are there is judged by its fields alone
+pub by-fields : (b : List ℕ) → 4 ≤ length b → mpegHead b ≡ mpegJudged (mpegFields b)
+unfolding mpegHead refuseIf
+by-fields b l = rw (le-ltb (length b) 4 l)
+
 -- the fields that are judged, from the bytes
 abbrev pub mpegByBytes : List ℕ → MpegFields
 mpegByBytes b =

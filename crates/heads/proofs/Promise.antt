@@ -105,12 +105,12 @@ whole-length MpegAudio b i e h = omega (arith, within MpegAudio b i e .length-in
 whole-length AacAdts b i e h = h
 
 -- skipping: no head reads at a place before `syncPlace s b`, whatever bytes c follow b
-unread-if : (t : Bool) (ground : Refusal) (rest : Head) → (t ≡ false → Unread rest) → Unread (refuseIf t ground rest)
+pub unread-if : (t : Bool) (ground : Refusal) (rest : Head) → (t ≡ false → Unread rest) → Unread (refuseIf t ground rest)
 unfolding refuseIf
 unread-if true ground rest u = tt
 unread-if false ground rest u = u refl
 
-unread-on : (t : Bool) (ground : Refusal) (rest : Head) → t ≡ true → Unread (refuseIf t ground rest)
+pub unread-on : (t : Bool) (ground : Refusal) (rest : Head) → t ≡ true → Unread (refuseIf t ground rest)
 unfolding refuseIf
 unread-on t ground rest e = rw e tt
 
@@ -221,19 +221,19 @@ need-most Ac3 = omega arith
 need-most MpegAudio = omega arith
 need-most AacAdts = omega arith
 
-few : (n : ℕ) (h : Head) (b : List ℕ) (i : AudioFrameInfo) → 4 ≤ n → (length b < n → Refused ShortHead ≡ h)
-    → h ≡ Read i → 4 ≤ length b
-few n h b i p short e = go (ltb (length b) n) refl
+pub enough : (n : ℕ) (h : Head) (b : List ℕ) (i : AudioFrameInfo) → (length b < n → Refused ShortHead ≡ h) → h ≡ Read i
+    → n ≤ length b
+enough n h b i short e = go (ltb (length b) n) refl
   where
-    go : (t : Bool) → ltb (length b) n ≡ t → 4 ≤ length b
+    go : (t : Bool) → ltb (length b) n ≡ t → n ≤ length b
     go true t = absurd (not-read h i (subst Unread (short (ltb-true (length b) n t)) tt) e)
-    go false t = omega (arith, ltb-false (length b) n t)
+    go false t = ltb-false (length b) n t
 
 pub reads-from : (s : AudioSyntax) (b : List ℕ) (i : AudioFrameInfo) → headOf s b ≡ Read i → 4 ≤ length b
 unfolding headOf
-reads-from Ac3 b i e = few 6 (a52Head b) b i (omega arith) (a52-short b) e
-reads-from MpegAudio b i e = few 4 (mpegHead b) b i (omega arith) (mpeg-short b) e
-reads-from AacAdts b i e = few 7 (adtsHead b) b i (omega arith) (adts-short b) e
+reads-from Ac3 b i e = omega (arith, enough 6 (a52Head b) b i (a52-short b) e)
+reads-from MpegAudio b i e = enough 4 (mpegHead b) b i (mpeg-short b) e
+reads-from AacAdts b i e = omega (arith, enough 7 (adtsHead b) b i (adts-short b) e)
 
 -- codes up to 2 are known, and those above are refused by 7
 pub code-number : (code : ℕ) → codedNumber (syntaxOf code) ≡ cond (ltb 2 code) 7 0

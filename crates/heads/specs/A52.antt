@@ -1,7 +1,7 @@
 -- A head of code 0, AC-3 or E-AC-3. Sync word and bsid stand in the same bits of both; bsid tells them apart.
 use Prim.Native.Nat.{ℕ}
 use mathlib.Core.List.{List}
-use mathlib.Core.Bool.{not, cond, _&&_}
+use mathlib.Core.Bool.{Bool, not, cond, _&&_}
 use lib.ListN.{length}
 use lib.Dec.{ltb, leb, eqb}
 use Rattle.heads.specs.Judge.{refuseIf}
@@ -16,10 +16,16 @@ abbrev pub ac3Syncword : ℕ
 ac3Syncword = 0x0B77
 
 -- bsid at most 8 is AC-3, 11 to 16 is E-AC-3, the rest neither
+abbrev pub isAc3 : ℕ → Bool
+isAc3 bsid = leb bsid 8
+
+abbrev pub isEac3 : ℕ → Bool
+isEac3 bsid = leb 11 bsid && leb bsid 16
+
 unfoldable pub byBsid : List ℕ → ℕ → Head
 byBsid b bsid =
-    cond (leb bsid 8) (ac3Judged (length b) (ac3Fields b))
-    (cond (leb 11 bsid && leb bsid 16) (eac3Judged (eac3Fields b))
+    cond (isAc3 bsid) (ac3Judged (length b) (ac3Fields b))
+    (cond (isEac3 bsid) (eac3Judged (eac3Fields b))
     (Refused Unsupported))
 
 -- 1, 2, 3, 4, then 1 for a seventh byte missing in AC-3

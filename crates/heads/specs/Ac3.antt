@@ -65,6 +65,22 @@ ac3Named l =
       lfeon = getD l 10 0;
     }
 
+-- the fields of a record in the order of the tables
+abbrev pub ac3Listed : Ac3Fields → List ℕ
+ac3Listed f =
+    f .syncword
+    ∷ f .crc1
+    ∷ f .fscod
+    ∷ f .frmsizecod
+    ∷ f .bsid
+    ∷ f .bsmod
+    ∷ f .acmod
+    ∷ f .cmixlev
+    ∷ f .surmixlev
+    ∷ f .dsurmod
+    ∷ f .lfeon
+    ∷ []
+
 -- acmod, the three bits after the first 48: it says how the bits behind it are divided
 abbrev pub acmodOf : ℕ → ℕ
 acmodOf n = n / 2 ^ 5 % 2 ^ 3

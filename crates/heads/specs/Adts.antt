@@ -53,6 +53,26 @@ adtsNamed l =
       «number_of_raw_data_blocks_in_frame» = getD l 14 0;
     }
 
+-- the fields of a record in the order of the tables
+abbrev pub adtsListed : AdtsFields → List ℕ
+adtsListed f =
+    f .syncword
+    ∷ f .id
+    ∷ f .layer
+    ∷ f .«protection_absent»
+    ∷ f .profile
+    ∷ f .«sampling_frequency_index»
+    ∷ f .«private_bit»
+    ∷ f .«channel_configuration»
+    ∷ f .«original_copy»
+    ∷ f .home
+    ∷ f .«copyright_identification_bit»
+    ∷ f .«copyright_identification_start»
+    ∷ f .«frame_length»
+    ∷ f .«adts_buffer_fullness»
+    ∷ f .«number_of_raw_data_blocks_in_frame»
+    ∷ []
+
 abbrev pub adtsFields : List ℕ → AdtsFields
 adtsFields b = adtsNamed (unpack adtsWidths (number 7 b))
 

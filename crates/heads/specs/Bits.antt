@@ -1,7 +1,9 @@
 -- Bit fields, as the standards' syntax tables list them: the first field in the highest bits, each later one in the
 -- next.
 use Prim.Native.Nat.{ℕ, zero, suc, _+_, _*_, _/_, _%_, _^_, _<_}
+use mathlib.Core.Bool.{Bool, true, false, _&&_}
 use mathlib.Core.List.{List, [], _∷_}
+use lib.Dec.{ltb}
 use lib.ListN.{getD}
 
 -- each element is a byte; so is what stands past the end, 0
@@ -29,12 +31,12 @@ pack [] fs = 0
 pack (w ∷ ws) [] = 0
 pack (w ∷ ws) (f ∷ fs) = f * 2 ^ total ws + pack ws fs
 
--- there are as many fields as widths, and each fits its own
-unfoldable pub Fit : List ℕ → List ℕ → Type 0
-Fit [] [] = Unit {0}
-Fit [] (f ∷ fs) = ⊥
-Fit (w ∷ ws) [] = ⊥
-Fit (w ∷ ws) (f ∷ fs) = (f < 2 ^ w) × Fit ws fs
+-- there are as many fields as widths, and each fits its own: one of width 0 must be 0
+unfoldable pub fits : List ℕ → List ℕ → Bool
+fits [] [] = true
+fits [] (f ∷ fs) = false
+fits (w ∷ ws) [] = false
+fits (w ∷ ws) (f ∷ fs) = ltb f (2 ^ w) && fits ws fs
 
 -- the widths of k bytes
 abbrev pub eights : ℕ → List ℕ
@@ -44,3 +46,7 @@ eights (suc k) = 8 ∷ eights k
 -- a number as k bytes, the highest first
 abbrev pub bytesOf : ℕ → ℕ → List ℕ
 bytesOf k n = unpack (eights k) n
+
+-- a number with its low u bits as 0
+abbrev pub cleared : ℕ → ℕ → ℕ
+cleared u n = n / 2 ^ u * 2 ^ u

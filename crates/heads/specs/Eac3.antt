@@ -57,6 +57,21 @@ eac3Named l =
       bsid = getD l 9 0;
     }
 
+-- the fields of a record in the order of the table
+abbrev pub eac3Listed : Eac3Fields → List ℕ
+eac3Listed f =
+    f .syncword
+    ∷ f .strmtyp
+    ∷ f .substreamid
+    ∷ f .frmsiz
+    ∷ f .fscod
+    ∷ f .fscod2
+    ∷ f .numblkscod
+    ∷ f .acmod
+    ∷ f .lfeon
+    ∷ f .bsid
+    ∷ []
+
 -- fscod, the two bits after the first 32: it says which field follows
 abbrev pub fscodOf : ℕ → ℕ
 fscodOf n = n / 2 ^ 14 % 2 ^ 2

@@ -12,4 +12,6 @@ pub mod Sync
 pub mod Promise
 pub mod Duration
 pub mod Host
+pub mod Write
+pub mod WriteCases
 pub mod Order

@@ -51,6 +51,24 @@ mpegNamed l =
       emphasis = getD l 12 0;
     }
 
+-- the fields of a record in the order of the table
+abbrev pub mpegListed : MpegFields → List ℕ
+mpegListed f =
+    f .syncword
+    ∷ f .id
+    ∷ f .layer
+    ∷ f .«protection_bit»
+    ∷ f .«bitrate_index»
+    ∷ f .«sampling_frequency»
+    ∷ f .«padding_bit»
+    ∷ f .«private_bit»
+    ∷ f .mode
+    ∷ f .«mode_extension»
+    ∷ f .copyright
+    ∷ f .«original_home»
+    ∷ f .emphasis
+    ∷ []
+
 abbrev pub mpegFields : List ℕ → MpegFields
 mpegFields b = mpegNamed (unpack mpegWidths (number 4 b))
 

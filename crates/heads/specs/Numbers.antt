@@ -10,6 +10,10 @@ use Rattle.heads.specs.declared.info.BitRate.{BitRate}
 use Rattle.heads.specs.declared.info.BitRate.the-variants.{Coded, Absent}
 use Rattle.heads.specs.declared.info.Refusal.{Refusal}
 use Rattle.heads.specs.declared.info.Refusal.the-variants.{ShortHead, NoSyncWord, Unsupported, ReservedCode, BitRateIndex, FrameLength, SyntaxCode}
+use Rattle.heads.specs.declared.write.WriteAnswer.{WriteAnswer}
+use Rattle.heads.specs.declared.write.WriteAnswer.the-variants.{Written}
+use Rattle.heads.specs.declared.write.WriteRefusal.{WriteRefusal}
+use Rattle.heads.specs.declared.write.WriteRefusal.the-variants.{ShortTape, Field, Reader}
 use Rattle.heads.specs.declared.info.Head.{Head}
 use Rattle.heads.specs.declared.info.Head.the-variants.{Read, Refused}
 
@@ -36,6 +40,17 @@ refusalNumber ReservedCode = 4
 refusalNumber BitRateIndex = 5
 refusalNumber FrameLength = 6
 refusalNumber SyntaxCode = 7
+
+-- why a head is not written: 12, 13 (document 02, K1), or the reader's own number
+abbrev pub writeRefusalNumber : WriteRefusal → ℕ
+writeRefusalNumber ShortTape = 12
+writeRefusalNumber Field = 13
+writeRefusalNumber (Reader ground) = refusalNumber ground
+
+-- 0 for a head that is written, or the refusal's number
+abbrev pub writeNumber : WriteAnswer → ℕ
+writeNumber Written = 0
+writeNumber (WriteAnswer.Refused ground) = writeRefusalNumber ground
 
 -- ---- the answer of a head
 

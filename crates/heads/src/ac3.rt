@@ -273,14 +273,13 @@ fn coded_channels(acmod: usize, lfeon: u8) -> u16
 }
 
 // The bits between acmod and lfeon, Table 5.2: cmixlev, surmixlev and dsurmod, each where acmod asks for it.
-fn mix_bits(acmod: usize) -> u32
-    requires { ⌜ acmod < 8 ⌝ }
+pub fn mix_bits(acmod: usize) -> u32
     ensures { λ r. ⌜ (r ≡ mixBits acmod) × (r ≤ 4) ⌝ }
 {
     cmixlev_bits(acmod) + surmixlev_bits(acmod) + dsurmod_bits(acmod)
 }
 
-fn cmixlev_bits(acmod: usize) -> u32
+pub fn cmixlev_bits(acmod: usize) -> u32
     ensures { λ r. ⌜ r ≡ cmixlevBits acmod ⌝ }
 {
     if acmod % 2 == 1 {
@@ -291,13 +290,13 @@ fn cmixlev_bits(acmod: usize) -> u32
     0
 }
 
-fn surmixlev_bits(acmod: usize) -> u32
+pub fn surmixlev_bits(acmod: usize) -> u32
     ensures { λ r. ⌜ r ≡ surmixlevBits acmod ⌝ }
 {
     if acmod / 4 % 2 == 1 { 2 } else { 0 }
 }
 
-fn dsurmod_bits(acmod: usize) -> u32
+pub fn dsurmod_bits(acmod: usize) -> u32
     ensures { λ r. ⌜ r ≡ dsurmodBits acmod ⌝ }
 {
     if acmod == 2 { 2 } else { 0 }

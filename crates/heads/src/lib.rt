@@ -3,12 +3,15 @@
 // proofs/Promise.antt alone.
 mod ac3;
 mod adts;
+mod bits;
 mod fields;
 mod host;
 mod info;
 mod mpeg;
 mod sync;
 mod syntax;
+mod tape;
+mod write;
 
 pub use ac3::parse_ac3_frame;
 pub use adts::parse_adts_header;
@@ -18,6 +21,10 @@ pub use fields::Eac3Fields;
 pub use fields::MpegFields;
 pub use host::audio_frame_duration_90k;
 pub use host::audio_frame_head;
+pub use host::audio_frame_write_ac3;
+pub use host::audio_frame_write_adts;
+pub use host::audio_frame_write_eac3;
+pub use host::audio_frame_write_mpeg;
 pub use info::AudioFrameInfo;
 pub use info::AudioFrameKind;
 pub use info::BitRate;
@@ -27,3 +34,9 @@ pub use mpeg::parse_mpeg_audio_header;
 pub use syntax::AudioSyntax;
 pub use syntax::CodedSyntax;
 pub use syntax::parse_head;
+pub use write::WriteAnswer;
+pub use write::WriteRefusal;
+pub use write::write_ac3_header;
+pub use write::write_adts_header;
+pub use write::write_eac3_header;
+pub use write::write_mpeg_audio_header;

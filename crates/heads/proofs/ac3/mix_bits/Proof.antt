@@ -14,18 +14,18 @@ surmixlev-bits-requires c κs = search needs
 
 add-result : tie.Need-add-result
 unfolding mixBits
-add-result c = omega (arith, four _ (c .before .before .pre))
+add-result c = omega (arith, four (c .before .before .args .acmod))
 
 dsurmod-bits-requires : tie.Need-dsurmod-bits-requires
 dsurmod-bits-requires c κs = search needs
 
 add-result-2 : tie.Need-add-result-2
 unfolding mixBits
-add-result-2 c = omega (arith, four _ (c .before .before .before .pre))
+add-result-2 c = omega (arith, four (c .before .before .before .args .acmod))
 
 returns : tie.Need-returns
 unfolding mixBits
-returns c = (search needs, omega (arith, four _ (c .before .before .before .pre)))
+returns c = (search needs, omega (arith, four (c .before .before .before .args .acmod)))
 
 pub mix-bits-spec : {M : Type 1} → statement M
 mix-bits-spec =

@@ -1,0 +1,26 @@
+-- `write_adts` meets its contract. Assumes nothing.
+use Rattle.heads.specs.Write.{adtsList}
+use Rattle.heads.proofs.WriteLaws.{drafted, adts-packed}
+use borrow.Author.Needs.{needs}
+use Rattle.heads.proofs.tape.write_adts.Statement.{statement}
+use Rattle.heads.proofs.tape.write_adts.Tie as tie
+
+slice-aggregate-pack : tie.Need-slice-aggregate-pack
+slice-aggregate-pack c = search needs
+
+pack-requires : tie.Need-pack-requires
+pack-requires c κs = search needs
+
+write-head-requires : tie.Need-write-head-requires
+write-head-requires c κs = search needs
+
+same-length : tie.Need-same-length
+same-length c = search needs
+
+returns : tie.Need-returns
+unfolding adtsList
+returns c = search (drafted, adts-packed) depth 5
+
+pub write-adts-spec : {M : Type 1} → statement M
+write-adts-spec =
+    tie.close (tie.spec slice-aggregate-pack pack-requires write-head-requires same-length returns)
