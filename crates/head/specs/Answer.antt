@@ -1,8 +1,9 @@
--- The line that answers a head: its values, or the number of its refusal.
+-- The line that answers a head: its values, or the number of its refusal; and bytes as a line.
 use mathlib.Core.List.{List, [], _∷_, _++_}
-use Prim.Native.Nat.{ℕ, zero, suc}
+use Prim.Native.Nat.{ℕ, zero, suc, _/_, _%_}
 use Rattle.heads.specs.Numbers.{HeadAnswer}
 use Rattle.numbers.specs.Decimal.{decimal}
+use Rattle.text.specs.Octet.{digitOf}
 
 -- numbers, a space between them: each but the first stands behind a space
 abbrev pub further : List ℕ → List ℕ
@@ -24,3 +25,15 @@ answerText (suc k) values = refusedText (suc k)
 -- closed by a line feed
 abbrev pub answerLine : HeadAnswer → List ℕ
 answerLine a = answerText (a .number) (a .values) ++ (10 ∷ [])
+
+-- a byte as two hexadecimal digits; bytes, a space between them
+abbrev pub octetText : ℕ → List ℕ
+octetText b = digitOf (b / 16) ∷ digitOf (b % 16) ∷ []
+
+abbrev pub furtherOctets : List ℕ → List ℕ
+furtherOctets [] = []
+furtherOctets (b ∷ bs) = 32 ∷ (octetText b ++ furtherOctets bs)
+
+abbrev pub spacedOctets : List ℕ → List ℕ
+spacedOctets [] = []
+spacedOctets (b ∷ bs) = octetText b ++ furtherOctets bs

@@ -2,6 +2,8 @@
 use crate::request::BYTES_MAX;
 use crate::request::Request;
 use crate::request::parse_request;
+use crate::tape::put_write;
+use crate::writing::FIELDS_MAX;
 use heads::AudioFrameInfo;
 use heads::AudioSyntax;
 use heads::CodedSyntax;
@@ -19,15 +21,19 @@ ghost use Rattle.head.specs.Answer.{answerLine, refusedText};
 
 pub fn put_answer(out: Output, block: &mut [u8; BLOCK_LEN], line: &[u8]) -> Output {
     let mut bytes = [0u8; BYTES_MAX];
-    match parse_request(line, &mut bytes) {
+    let mut numbers = [0u32; FIELDS_MAX];
+    match parse_request(line, &mut bytes, &mut numbers) {
         Request::Head { code, count } => put_head(out, block, code, &bytes, count),
         Request::Skip { code, count } => put_skip(out, block, code, &bytes, count),
         Request::Duration { samples, rate } => put_duration(out, block, samples, rate),
+        Request::Write { table, at, room } => put_write(out, block, table, &numbers, room, at),
         Request::Malformed => put_malformed(out, block),
     }
 }
 
-pub fn put_malformed(out: Output, block: &mut [u8; BLOCK_LEN]) -> Output {
+pub fn put_malformed(out: Output, block: &mut [u8; BLOCK_LEN]) -> Output
+    ensures { λ r. ⌜ Put (63 ∷ 10 ∷ []) out r (now (block .entry)) (now (block .exit)) ⌝ }
+{
     out.put_text(block, b"?\n")
 }
 
@@ -71,7 +77,7 @@ fn put_skip(
     }
 }
 
-fn put_refusal(out: Output, block: &mut [u8; BLOCK_LEN], number: u32) -> Output
+pub fn put_refusal(out: Output, block: &mut [u8; BLOCK_LEN], number: u32) -> Output
     ensures { λ r. ⌜ Put (refusedText number ++ (10 ∷ [])) out r (now (block .entry)) (now (block .exit)) ⌝ }
 {
     out.put_text(block, b"refused ")

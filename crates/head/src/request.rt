@@ -1,5 +1,9 @@
 // What a line of input asks for. A head is its syntax code and its bytes, as `2 FF F1 50 80 00 E0 00`; a skip to the
-// first place at which a head can begin is `s 2 00 FF F1`; a duration is `d 1024 44100`.
+// first place at which a head can begin is `s 2 00 FF F1`; a duration is `d 1024 44100`; writing.rt has the lines that
+// have a head written.
+use crate::writing::FIELDS_MAX;
+use crate::writing::Table;
+use crate::writing::parse_write;
 use text::Octet;
 use text::Place;
 use text::Short;
@@ -14,11 +18,26 @@ pub const BYTES_MAX: usize = 128;
 // The most digits of a number.
 const DIGITS_MAX: usize = 10;
 
-// The bytes of a head or a skip are the first count of the lent array.
+// The bytes of a head or a skip are the first count of the lent bytes. The fields of a head to be written are the lent
+// numbers, as many as its table has.
 pub enum Request {
-    Head { code: u32, count: usize },
-    Skip { code: u32, count: usize },
-    Duration { samples: u32, rate: u32 },
+    Head {
+        code: u32,
+        count: usize,
+    },
+    Skip {
+        code: u32,
+        count: usize,
+    },
+    Duration {
+        samples: u32,
+        rate: u32,
+    },
+    Write {
+        table: Table,
+        at: usize,
+        room: usize,
+    },
     Malformed,
 }
 
@@ -34,7 +53,11 @@ enum Coded {
     NotCoded,
 }
 
-pub fn parse_request(line: &[u8], bytes: &mut [u8; BYTES_MAX]) -> Request {
+pub fn parse_request(
+    line: &[u8],
+    bytes: &mut [u8; BYTES_MAX],
+    numbers: &mut [u32; FIELDS_MAX],
+) -> Request {
     if line.len() == 0 {
         return Request::Malformed;
     }
@@ -42,6 +65,7 @@ pub fn parse_request(line: &[u8], bytes: &mut [u8; BYTES_MAX]) -> Request {
     match letter {
         b'd' => parse_duration(line),
         b's' => parse_skip(line, bytes),
+        b'w' => parse_write(line, numbers),
         _ => parse_head(line, bytes),
     }
 }
@@ -94,7 +118,7 @@ fn parse_duration(line: &[u8]) -> Request {
 }
 
 // A space, and a number behind it.
-fn digits_after(line: &[u8], at: usize) -> Short {
+pub fn digits_after(line: &[u8], at: usize) -> Short {
     let Place::At(start) = skip(line, at, b' ') else {
         return Short::NoShort;
     };
