@@ -1,5 +1,6 @@
-/* Wrong libraries for host/selftests/heads. The runner is linked with --wrap=audio_frame_head, so that its
- * calls come here and reach the library as __real_audio_frame_head. FAULT says what goes wrong. */
+/* Wrong libraries for host/selftests/heads. The runner is linked with --wrap for audio_frame_head and the four
+ * writers, so that its calls come here and reach the library as __real_audio_frame_head and so on. FAULT says what
+ * goes wrong. */
 #include "audio_frame.h"
 
 #include <string.h>
@@ -19,7 +20,82 @@ enum fault {
     TESTS_HEAD_BEFORE_12,
     TAKES_23_BYTES,
     READS_PAST_HEAD,
+    WRITES_BEHIND_HEAD,
+    WRITES_BEFORE_PLACE,
+    WRITES_BEHIND_TAPE,
+    WRITES_ON_13,
+    WRITES_ON_THE_READERS_NUMBER,
+    WRITES_12_BEFORE_13,
+    WRITES_READER_BEFORE_12,
+    WRITES_EXCHANGED_FIELDS,
+    WRITES_LEFT_OUT_FIELDS,
+    WRITES_BSID_16_AS_AC3,
+    WRITES_UNUSED_BITS,
+    WRITES_ONE_FIELD_MORE,
+    WRITES_NEAR_THE_LARGEST_PLACE,
 };
+
+/* A writer of the library. */
+typedef uint32_t writer(const uint32_t *fields, size_t field_count, uint8_t *tape, size_t tape_len,
+                        size_t at);
+
+/* A head of so many bytes and fields, written with a fault. */
+static uint32_t write_wrongly(writer *real, size_t size, size_t count, const uint32_t *fields,
+                              size_t field_count, uint8_t *tape, size_t tape_len, size_t at)
+{
+    enum fault fault = FAULT;
+    uint32_t own[16] = {0};
+    uint8_t scratch[8];
+    int has_room = at <= tape_len && tape_len - at >= size;
+
+    if (field_count <= 16)
+        memcpy(own, fields, field_count * sizeof *own);
+    if (fault == WRITES_12_BEFORE_13 && !has_room)
+        return 12;
+    if (fault == WRITES_READER_BEFORE_12 && !has_room)
+        return real(fields, field_count, scratch, sizeof scratch, 0) == 0 ? 12
+               : real(fields, field_count, scratch, sizeof scratch, 0);
+    if (fault == WRITES_EXCHANGED_FIELDS && size == 4) {
+        own[10] = fields[11];
+        own[11] = fields[10];
+    }
+    if (fault == WRITES_LEFT_OUT_FIELDS && count == 11 && own[6] == 2)
+        own[7] = 0;
+    if (fault == WRITES_BSID_16_AS_AC3 && count == 11 && own[4] == 16)
+        own[4] = 8;
+    if (fault == WRITES_ONE_FIELD_MORE && field_count == count + 1)
+        field_count = count;
+    if (fault == WRITES_NEAR_THE_LARGEST_PLACE && at > (size_t)-size)
+        at = 0;
+
+    uint32_t status = real(own, field_count, tape, tape_len, at);
+    if (fault == WRITES_BEHIND_HEAD && status == 0 && at + size < tape_len)
+        tape[at + size] = 0;
+    if (fault == WRITES_BEFORE_PLACE && status == 0 && at > 0)
+        tape[at - 1] = 0;
+    if (fault == WRITES_BEHIND_TAPE && status == 0)
+        tape[tape_len] ^= 1;
+    if (fault == WRITES_ON_13 && status == 13 && has_room)
+        tape[at] ^= 1;
+    if (fault == WRITES_ON_THE_READERS_NUMBER && status >= 1 && status <= 6)
+        tape[at] ^= 1;
+    if (fault == WRITES_UNUSED_BITS && status == 0 && size == 6)
+        tape[at + 5] |= 1;
+    return status;
+}
+
+#define WRITER(name, size, count)                                                                  \
+    writer __real_##name, __wrap_##name;                                                           \
+    uint32_t __wrap_##name(const uint32_t *fields, size_t field_count, uint8_t *tape,              \
+                           size_t tape_len, size_t at)                                             \
+    {                                                                                              \
+        return write_wrongly(__real_##name, size, count, fields, field_count, tape, tape_len, at); \
+    }
+
+WRITER(audio_frame_write_ac3, 7, AUDIO_FRAME_AC3_FIELDS)
+WRITER(audio_frame_write_eac3, 6, AUDIO_FRAME_EAC3_FIELDS)
+WRITER(audio_frame_write_mpeg, 4, AUDIO_FRAME_MPEG_FIELDS)
+WRITER(audio_frame_write_adts, 7, AUDIO_FRAME_ADTS_FIELDS)
 
 uint32_t __wrap_audio_frame_head(uint32_t code, const uint8_t *head, size_t head_len, uint8_t *out,
                                  size_t out_len)

@@ -1,7 +1,8 @@
 //! Document 01's own cases and the answers that it gives: H1 to H9, D1, frame F and the small
-//! inputs of its number table.
+//! inputs of its number table; and heads written from their fields, worked out by hand.
 
 use crate::library::Answer;
+use crate::writes::Table::{self, Ac3, Adts, Eac3, Mpeg};
 
 /// Stands for a number that the document does not give. No field of a head can be that large.
 pub const UNSAID: u32 = u32::MAX;
@@ -71,4 +72,77 @@ pub static NUMBERS: [Case; 8] = [
 pub static DURATIONS: [Duration; 2] = [
     Duration { name: "D1", samples: 65536, rate: 1, says: 1_603_272_704 },
     Duration { name: "D1, 0 Hz", samples: 65536, rate: 0, says: 0 },
+];
+
+/// A head written from its fields.
+pub struct Write {
+    pub table: Table,
+    pub fields: &'static [u32],
+    pub room: usize,
+    pub at: u64,
+    /// The number of the refusal, or 0.
+    pub says: u32,
+    /// What stands at the place then.
+    pub bytes: &'static [u8],
+}
+
+const fn written(table: Table, fields: &'static [u32], bytes: &'static [u8]) -> Write {
+    Write { table, fields, room: bytes.len() + 3, at: 2, says: 0, bytes }
+}
+
+const fn refused(table: Table, fields: &'static [u32], room: usize, at: u64, says: u32) -> Write {
+    Write { table, fields, room, at, says, bytes: &[] }
+}
+
+/// Document 01's heads from their fields; then the order of the refusals (13, 12, the reader's own),
+/// bsid, fields that are left out, and places.
+#[rustfmt::skip]
+pub static WRITES: [Write; 47] = [
+    written(Ac3, &[0x0B77, 0, 0, 0, 8, 0, 2, 0, 0, 0, 0], &[0x0B, 0x77, 0x00, 0x00, 0x00, 0x40, 0x40]),
+    written(Ac3, &[0x0B77, 0, 0, 0, 8, 0, 2, 0, 0, 0, 1], &[0x0B, 0x77, 0x00, 0x00, 0x00, 0x40, 0x44]),
+    written(Ac3, &[0x0B77, 0, 1, 30, 8, 0, 7, 0, 0, 0, 1], &[0x0B, 0x77, 0x00, 0x00, 0x5E, 0x40, 0xE1]),
+    written(Ac3, &[0x0B77, 0xABCD, 2, 36, 6, 5, 3, 2, 0, 0, 1], &[0x0B, 0x77, 0xAB, 0xCD, 0xA4, 0x35, 0x74]),
+    written(Ac3, &[0x0B77, 0xABCD, 2, 36, 6, 5, 4, 0, 1, 0, 1], &[0x0B, 0x77, 0xAB, 0xCD, 0xA4, 0x35, 0x8C]),
+    written(Ac3, &[0x0B77, 0xABCD, 2, 36, 6, 5, 5, 2, 1, 0, 1], &[0x0B, 0x77, 0xAB, 0xCD, 0xA4, 0x35, 0xB3]),
+    written(Ac3, &[0x0B77, 0xABCD, 2, 36, 6, 5, 2, 0, 0, 3, 1], &[0x0B, 0x77, 0xAB, 0xCD, 0xA4, 0x35, 0x5C]),
+    written(Ac3, &[0x0B77, 0xABCD, 2, 36, 6, 5, 1, 0, 0, 0, 1], &[0x0B, 0x77, 0xAB, 0xCD, 0xA4, 0x35, 0x30]),
+    written(Eac3, &[0x0B77, 0, 0, 3, 0, 0, 3, 7, 1, 16], &[0x0B, 0x77, 0x00, 0x03, 0x3F, 0x80]),
+    written(Eac3, &[0x0B77, 1, 5, 0x5A7, 3, 2, 0, 5, 0, 11], &[0x0B, 0x77, 0x6D, 0xA7, 0xEA, 0x58]),
+    written(Mpeg, &[0xFFF, 1, 1, 1, 9, 0, 0, 0, 3, 0, 0, 0, 0], &[0xFF, 0xFB, 0x90, 0xC0]),
+    written(Mpeg, &[0xFFF, 0, 1, 1, 1, 1, 0, 0, 0, 0, 0, 0, 0], &[0xFF, 0xF3, 0x14, 0x00]),
+    written(Mpeg, &[0xFFF, 1, 3, 1, 1, 1, 0, 0, 0, 0, 0, 0, 0], &[0xFF, 0xFF, 0x14, 0x00]),
+    written(Mpeg, &[0xFFF, 1, 2, 0, 14, 2, 1, 1, 1, 3, 1, 0, 3], &[0xFF, 0xFC, 0xEB, 0x7B]),
+    written(Adts, &[0xFFF, 0, 0, 1, 1, 4, 0, 2, 0, 0, 0, 0, 7, 0, 0], &[0xFF, 0xF1, 0x50, 0x80, 0x00, 0xE0, 0x00]),
+    written(Adts, &[0xFFF, 0, 0, 0, 1, 4, 0, 2, 0, 0, 0, 0, 9, 0, 0], &[0xFF, 0xF0, 0x50, 0x80, 0x01, 0x20, 0x00]),
+    written(Adts, &[0xFFF, 1, 0, 1, 3, 11, 1, 7, 1, 0, 1, 0, 4660, 1445, 3], &[0xFF, 0xF9, 0xEF, 0xEA, 0x46, 0x96, 0x97]),
+    refused(Ac3, &[0x10000, 0, 0, 0, 8, 0, 2, 0, 0, 0, 0], 6, 0, 13),
+    refused(Ac3, &[0x0B78, 0, 0, 0, 8, 0, 2, 0, 0, 0, 0], 6, 0, 12),
+    refused(Ac3, &[0x0B78, 0, 0, 0, 8, 0, 2, 0, 0, 0, 0], 7, 0, 2),
+    refused(Eac3, &[0x0B77, 0, 0, 3, 3, 3, 1, 7, 1, 16], 6, 1, 13),
+    refused(Eac3, &[0x0B77, 0, 0, 3, 3, 3, 0, 7, 1, 16], 6, 1, 12),
+    refused(Eac3, &[0x0B77, 0, 0, 3, 3, 3, 0, 7, 1, 16], 7, 1, 4),
+    refused(Mpeg, &[0xFFF, 1, 1, 1, 16, 3, 0, 0, 3, 0, 0, 0, 0], 7, 4, 13),
+    refused(Mpeg, &[0xFFF, 1, 1, 1, 15, 3, 0, 0, 3, 0, 0, 0, 0], 7, 4, 12),
+    refused(Mpeg, &[0xFFF, 1, 1, 1, 15, 3, 0, 0, 3, 0, 0, 0, 0], 8, 4, 5),
+    refused(Adts, &[0xFFF, 0, 4, 1, 1, 4, 0, 2, 0, 0, 0, 0, 6, 0, 0], 9, 3, 13),
+    refused(Adts, &[0xFFF, 0, 1, 1, 1, 4, 0, 2, 0, 0, 0, 0, 6, 0, 0], 9, 3, 12),
+    refused(Adts, &[0xFFF, 0, 1, 1, 1, 4, 0, 2, 0, 0, 0, 0, 6, 0, 0], 10, 3, 3),
+    refused(Adts, &[0xFFF, 0, 0, 1, 1, 4, 0, 2, 0, 0, 0, 0, 6, 0, 0], 10, 3, 6),
+    refused(Ac3, &[0x0B77, 0, 0, 0, 9, 0, 2, 0, 0, 0, 0], 7, 0, 3),
+    refused(Ac3, &[0x0B77, 0, 0, 0, 11, 0, 2, 0, 0, 0, 0], 7, 0, 13),
+    refused(Ac3, &[0x0B77, 0, 0, 0, 16, 0, 2, 0, 0, 0, 0], 7, 0, 13),
+    refused(Ac3, &[0x0B77, 0, 0, 0, 17, 0, 2, 0, 0, 0, 0], 7, 0, 3),
+    refused(Ac3, &[0x0B77, 0, 0, 0, 32, 0, 2, 0, 0, 0, 0], 7, 0, 13),
+    refused(Eac3, &[0x0B77, 0, 0, 3, 0, 0, 3, 7, 1, 8], 6, 0, 13),
+    refused(Eac3, &[0x0B77, 0, 0, 3, 0, 0, 3, 7, 1, 10], 6, 0, 3),
+    refused(Eac3, &[0x0B77, 0, 0, 3, 0, 0, 3, 7, 1, 31], 6, 0, 3),
+    refused(Eac3, &[0x0B77, 0, 0, 3, 0, 0, 3, 7, 1, 32], 6, 0, 13),
+    refused(Ac3, &[0x0B77, 0, 0, 0, 8, 0, 2, 1, 0, 0, 0], 7, 0, 13),
+    refused(Eac3, &[0x0B77, 0, 0, 3, 0, 1, 3, 7, 1, 16], 6, 0, 13),
+    refused(Eac3, &[0x0B77, 0, 0, 3, 3, 1, 3, 7, 1, 16], 6, 0, 13),
+    refused(Ac3, &[0x0B77, 0, 0, 0, 8, 0, 2, 0, 0, 0, 0], 0, 0, 12),
+    refused(Ac3, &[0x0B77, 0, 0, 0, 8, 0, 2, 0, 0, 0, 0], 8, 2, 12),
+    refused(Ac3, &[0x0B77, 0, 0, 0, 8, 0, 2, 0, 0, 0, 0], 8, 9, 12),
+    refused(Mpeg, &[0xFFF, 1, 1, 1, 9, 0, 0, 0, 3, 0, 0, 0, 0], 4, u64::MAX - 3, 12),
+    refused(Mpeg, &[0xFFF, 1, 1, 1, 9, 0, 0, 0, 3, 0, 0, 0, 0], 4, u64::MAX, 12),
 ];

@@ -4,5 +4,7 @@ pub mod cases;
 pub mod library;
 pub mod line;
 pub mod numbers;
+pub mod records;
 pub mod reference;
 pub mod skip;
+pub mod writes;

@@ -1,5 +1,7 @@
 //! Safe calls of the library under test, through its C exports (include/audio_frame.h).
 
+use crate::writes::Table;
+
 /// The six numbers of a head that reads (kind, length, samples, rate, channels, bit rate or 0), or
 /// the number of the refusal.
 pub type Answer = Result<[u32; 6], u32>;
@@ -26,6 +28,13 @@ extern "C" {
         out_len: usize,
     ) -> u32;
     fn audio_frame_duration_90k(samples: u32, rate: u32) -> u32;
+    fn audio_frame_write_ac3(f: *const u32, n: usize, tape: *mut u8, len: usize, at: usize) -> u32;
+    fn audio_frame_write_eac3(f: *const u32, n: usize, tape: *mut u8, len: usize, at: usize)
+        -> u32;
+    fn audio_frame_write_mpeg(f: *const u32, n: usize, tape: *mut u8, len: usize, at: usize)
+        -> u32;
+    fn audio_frame_write_adts(f: *const u32, n: usize, tape: *mut u8, len: usize, at: usize)
+        -> u32;
 }
 
 /// Reads a head into `out` and returns 0 or the number of the refusal.
@@ -51,6 +60,43 @@ pub fn read_guarded(code: u32, head: &[u8], out_len: usize) -> Result<Answer, To
     let written = if status == 0 { RECORD.min(out_len) } else { 0 };
     memory[GUARD..][..written].copy_from_slice(&PATTERN[GUARD..][..written]);
     check_untouched(&memory).map(|()| answer)
+}
+
+/// The longest tape that [`write_guarded`] lends.
+pub const LONGEST_TAPE: usize = LONGEST_OUT;
+
+/// A tape that [`write_guarded`] lent, as the call left it.
+pub type Tape = [u8; LONGEST_TAPE];
+
+/// A tape before a head is written there.
+pub fn blank() -> Tape {
+    let (_, rest) = PATTERN.split_first_chunk::<GUARD>().expect("a guard");
+    *rest.first_chunk().expect("a tape behind it")
+}
+
+/// Writes a head with these fields at a place of a blank tape of `room` bytes. Returns what the call
+/// returned, and the tape; checks that every byte before and behind it stayed.
+pub fn write_guarded(
+    table: Table,
+    fields: &[u32],
+    room: usize,
+    at: usize,
+) -> Result<(u32, Tape), Touched> {
+    assert!(room <= LONGEST_TAPE);
+    let write = match table {
+        Table::Ac3 => audio_frame_write_ac3,
+        Table::Eac3 => audio_frame_write_eac3,
+        Table::Mpeg => audio_frame_write_mpeg,
+        Table::Adts => audio_frame_write_adts,
+    };
+    let mut memory = PATTERN;
+    let tape = memory.as_mut_ptr().wrapping_add(GUARD);
+    // SAFETY: `tape` has `room` bytes of `memory`, which `fields`, a slice, does not overlap.
+    let status = unsafe { write(fields.as_ptr(), fields.len(), tape, room, at) };
+    let mut left = blank();
+    left[..room].copy_from_slice(&memory[GUARD..][..room]);
+    memory[GUARD..][..room].copy_from_slice(&PATTERN[GUARD..][..room]);
+    check_untouched(&memory).map(|()| (status, left))
 }
 
 /// The duration in 90 kHz ticks of `samples` at `rate`.

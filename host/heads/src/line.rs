@@ -1,10 +1,14 @@
 //! The lines that the program `head` is asked, and the answers that it must give.
 
 use crate::reference;
+use crate::writes::{Fields, Table};
 use oracle::answers;
 
-/// The most bytes that a line may give.
+/// The most bytes that a line may give, and the longest tape that it may ask for.
 pub const MOST_BYTES: usize = 128;
+
+/// Each byte of a tape before a head is written there.
+const BLANK: u8 = 0xA5;
 
 pub enum Line {
     /// What the head says: a syntax code and the head's bytes.
@@ -13,6 +17,8 @@ pub enum Line {
     Skip(u32, Vec<u8>),
     /// The ticks of so many samples at that rate.
     Duration(u32, u32),
+    /// A head written on a tape: its table and fields, the place, and the tape's length.
+    Write(Table, Fields, u64, usize),
     /// A line that is none of these: what is wrong with it, and its text.
     Malformed(&'static str, Vec<u8>),
 }
@@ -24,6 +30,10 @@ impl Line {
             Line::Head(code, bytes) => coded("", *code, bytes),
             Line::Skip(code, bytes) => coded("s ", *code, bytes),
             Line::Duration(samples, rate) => format!("d {samples} {rate}").into(),
+            Line::Write(table, fields, at, room) => {
+                let numbers = fields[..table.fields()].iter().map(|field| format!(" {field}"));
+                format!("w {} {at} {room}{}", table.word(), numbers.collect::<String>()).into()
+            }
             Line::Malformed(_, text) => text.clone(),
         }
     }
@@ -40,6 +50,11 @@ impl Line {
                 Ok(reference::place(*code, bytes)?.map_or_else(refused, |place| place.to_string()))
             }
             Line::Duration(samples, rate) => Ok(answers::duration_90k(*samples, *rate).to_string()),
+            Line::Write(table, fields, at, room) => {
+                let mut tape = [BLANK; MOST_BYTES];
+                let tape = &mut tape[..*room];
+                Ok(table.write(fields, tape, *at)?.map_or_else(refused, |()| octets(tape)))
+            }
             Line::Malformed(..) => Ok("?".into()),
         }
     }
@@ -51,11 +66,21 @@ fn refused(number: u32) -> String {
 
 /// A syntax code and bytes, a space before each byte, behind `letter`.
 fn coded(letter: &str, code: u32, bytes: &[u8]) -> Vec<u8> {
-    const DIGITS: &[u8; 16] = b"0123456789ABCDEF";
     let mut text = format!("{letter}{code}").into_bytes();
     for &byte in bytes {
-        let (high, low) = (DIGITS[usize::from(byte >> 4)], DIGITS[usize::from(byte & 15)]);
-        text.extend([b' ', high, low]);
+        text.push(b' ');
+        text.extend(digits(byte));
     }
     text
+}
+
+/// Bytes in hexadecimal, a space between them.
+fn octets(bytes: &[u8]) -> String {
+    let text: Vec<u8> = bytes.iter().flat_map(|&byte| [&digits(byte)[..], b" "].concat()).collect();
+    String::from_utf8_lossy(&text).trim_end().into()
+}
+
+fn digits(byte: u8) -> [u8; 2] {
+    const DIGITS: &[u8; 16] = b"0123456789ABCDEF";
+    [DIGITS[usize::from(byte >> 4)], DIGITS[usize::from(byte & 15)]]
 }

@@ -1,16 +1,18 @@
-//! Writes the stored list: heads, skips and durations, one a line, and beside it the answers that
-//! they must get. A Rattle program replays it where no Rust is at hand.
+//! Writes the stored list: heads, skips, durations and heads to be written, one a line, and beside it
+//! the answers that they must get. A Rattle program replays it where no Rust is at hand.
 //!
 //!   list INPUTS ANSWERS
 //!
-//! An input is `CODE HEX..`, `s CODE HEX..` or `d SAMPLES RATE`. Its answer is the six numbers of the
-//! head, the place, the duration, or `refused NUMBER`.
+//! An input is `CODE HEX..`, `s CODE HEX..`, `d SAMPLES RATE` or `w TABLE AT ROOM FIELD..`. Its answer
+//! is the six numbers of the head, the place, the duration, the tape, or `refused NUMBER`.
 
 use common::random::Random;
 use common::samples::{self, Ac3, Adts, Bytes, Eac3, Mpeg, KINDS};
 use heads::cases;
 use heads::line::Line::{self, Duration, Head, Skip};
 use heads::line::MOST_BYTES;
+use heads::records::{by_chance, good};
+use heads::writes::{Fields, Table, MOST_FIELDS, TABLES};
 use std::process::ExitCode;
 
 fn main() -> ExitCode {
@@ -63,6 +65,10 @@ fn all_lines() -> Vec<Line> {
     lines.extend(small_skips());
     lines.extend(skips_to_a_sync_word());
     lines.extend(skips_to_the_last_byte());
+    lines.extend(written_cases());
+    lines.extend(fields_at_their_bounds());
+    lines.extend(written_by_chance());
+    lines.extend(tapes());
     lines
 }
 
@@ -263,4 +269,93 @@ fn without_sync_word(code: u32, len: usize) -> Vec<u8> {
         _ => [0xEF, 0xFF, 0x77, 0x0B, 0xF0],
     };
     (0..len).rev().map(|k| cycle[k % cycle.len()]).collect()
+}
+
+/// The heads that are worked out by hand.
+fn written_cases() -> Vec<Line> {
+    let line = |case: &cases::Write| {
+        let mut fields = [0; MOST_FIELDS];
+        fields[..case.fields.len()].copy_from_slice(case.fields);
+        Line::Write(case.table, fields, case.at, case.room)
+    };
+    cases::WRITES.iter().map(line).collect()
+}
+
+/// Each field of a head that reads: the largest that its width holds, the next, and the largest of
+/// its type in a record, and of 32 bits.
+fn fields_at_their_bounds() -> Vec<Line> {
+    let mut random = Random::new(12);
+    let mut lines = Vec::new();
+    for table in TABLES {
+        let fields = good(table, &mut random);
+        for field in 0..table.fields() {
+            let most = 1 << table.widths(&fields)[field];
+            let of_type = if most > 256 { 65_535 } else { 255 };
+            lines.extend(
+                [most - 1, most, of_type, u32::MAX]
+                    .map(|number| with(table, fields, field, number)),
+            );
+        }
+    }
+    lines
+}
+
+fn with(table: Table, mut fields: Fields, field: usize, number: u32) -> Line {
+    fields[field] = number;
+    Line::Write(table, fields, 1, table.bytes() + 2)
+}
+
+/// Each acmod and each bsid, and records by chance.
+fn written_by_chance() -> Vec<Line> {
+    let mut random = Random::new(21);
+    let mut lines = Vec::new();
+    for acmod in 0..8 {
+        let mut fields = good(Table::Ac3, &mut random);
+        while fields[6] != acmod {
+            fields = good(Table::Ac3, &mut random);
+        }
+        lines.push(Line::Write(Table::Ac3, fields, 0, 7));
+        lines.extend((7..10).map(|field| with(Table::Ac3, fields, field, 1)));
+    }
+    for bsid in 0..33 {
+        lines.push(with(Table::Ac3, good(Table::Ac3, &mut random), 4, bsid));
+        lines.push(with(Table::Eac3, good(Table::Eac3, &mut random), 9, bsid));
+    }
+    for n in 0..60 {
+        let table = TABLES[n % 4];
+        lines.push(Line::Write(
+            table,
+            by_chance(table, &mut random),
+            n as u64 % 3,
+            table.bytes() + 3,
+        ));
+    }
+    lines
+}
+
+/// A head that reads on tapes about its own length, and on the longest; places about their ends, and
+/// the largest place.
+fn tapes() -> Vec<Line> {
+    let mut random = Random::new(7);
+    let mut lines = Vec::new();
+    for table in TABLES {
+        let fields = good(table, &mut random);
+        let bytes = table.bytes();
+        let places = [
+            (0, 0),
+            (0, bytes - 1),
+            (0, bytes),
+            (1, bytes),
+            (1, bytes + 1),
+            (bytes, bytes),
+            (bytes + 1, bytes),
+        ];
+        lines.extend(places.map(|(at, room)| Line::Write(table, fields, at as u64, room)));
+        let last = (MOST_BYTES - bytes) as u64;
+        lines.extend(
+            [last, last + 1, u64::MAX - 6, u64::MAX]
+                .map(|at| Line::Write(table, fields, at, MOST_BYTES)),
+        );
+    }
+    lines
 }

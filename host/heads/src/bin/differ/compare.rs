@@ -1,6 +1,8 @@
 //! One head or duration asked of the library, the oracle and the second definition of the numbers.
 
+use crate::tapes::Writes;
 use heads::library::{self, Answer, Touched};
+use heads::writes::TABLES;
 use heads::{numbers, reference};
 use oracle::answers;
 use std::fmt;
@@ -24,6 +26,7 @@ pub struct Tally {
     read: [u64; 7],
     /// By number; place 0 stays empty.
     refused: [u64; 13],
+    pub writes: Writes,
 }
 
 impl Tally {
@@ -38,12 +41,16 @@ impl Tally {
         self.agreed(code, head, out_len).map(|_| ())
     }
 
-    /// Compares a head at that lent length and returns the answer that all sides give.
+    /// Compares a head at that lent length and returns the answer that all sides give. The fields of one
+    /// that reads are written again.
     pub fn agreed(&mut self, code: u32, head: &[u8], out_len: usize) -> Result<Answer, Difference> {
         let library = library::read_guarded(code, head, out_len);
         match expected(code, head, out_len) {
             Ok(answer) if library == Ok(answer) => {
                 self.count(answer);
+                if let Ok(six) = answer {
+                    self.rewrite(head, six[0])?;
+                }
                 Ok(answer)
             }
             expected => Err(wrong_answer(code, head, out_len, library, expected)),
@@ -75,6 +82,7 @@ impl Tally {
         self.durations += other.durations;
         self.read.iter_mut().zip(other.read).for_each(|(sum, n)| *sum += n);
         self.refused.iter_mut().zip(other.refused).for_each(|(sum, n)| *sum += n);
+        self.writes.add(&other.writes);
     }
 
     /// The kinds 1 to 6 and the numbers 1 to 7 and 12 that no head has shown.
@@ -90,10 +98,18 @@ impl fmt::Display for Tally {
         write!(f, "{} heads", self.heads)?;
         write_counts(f, "; read by kind", &self.read)?;
         write_counts(f, "; refused by number", &self.refused)?;
-        match self.durations {
-            0 => Ok(()),
-            durations => write!(f, "; {durations} durations"),
+        let more = [
+            (self.durations, "durations"),
+            (self.writes.rewritten, "rewritten"),
+            (self.writes.total(), "writes"),
+        ];
+        for (count, name) in more.into_iter().filter(|(count, _)| *count > 0) {
+            write!(f, "; {count} {name}")?;
         }
+        for (table, answers) in TABLES.into_iter().zip(&self.writes.answers) {
+            write_counts(f, &format!("; {} by number", table.word()), answers)?;
+        }
+        Ok(())
     }
 }
 

@@ -1,8 +1,10 @@
-//! The differential runner: the library under test beside the Rust module and the number table.
-//! It stops with status 1 at the first difference, or where a kind or a number was never seen.
+//! The differential runner: the library under test beside the Rust module, the number table and the
+//! second definition of writing. It stops with status 1 at the first difference, or where a kind or a
+//! number was never seen.
 
 mod compare;
 mod runs;
+mod tapes;
 
 use common::asking;
 use compare::{Difference, Outcome, Tally};
@@ -10,7 +12,7 @@ use std::process::ExitCode;
 use std::time::Instant;
 
 const USAGE: &str = "usage: differ [--random N] [--seed S] [--quick]
-  --random N   N random heads and N damaged ones (default 20000000)
+  --random N   N random heads, N damaged ones and N / 4 records to write (default 20000000)
   --seed S     seed of everything random (default 1)
   --quick      few random and damaged heads, for the self-test";
 
@@ -22,13 +24,19 @@ pub struct Options {
 type Run = fn(&mut Tally, &Options) -> Outcome;
 
 /// Quick ones first, so that a difference shows soon.
-const RUNS: [(&str, Run); 17] = [
+const RUNS: [(&str, Run); 23] = [
     ("document 01's cases", runs::document_cases),
     ("durations", runs::durations),
     ("codes above 2", runs::other_codes),
     ("heads made to read", runs::good_heads),
     ("lent lengths 0 to 40", runs::lent_lengths),
     ("head lengths 0 to 16, and 65536", runs::head_lengths),
+    ("written heads by hand", tapes::written_cases),
+    ("written heads, numbers of fields", tapes::field_counts),
+    ("written heads, tapes and places", tapes::tapes),
+    ("written heads, bsid and fields left out", tapes::left_out_fields),
+    ("written heads, fields at their bounds", tapes::field_bounds),
+    ("written heads by chance", tapes::random_records),
     ("every sync word", runs::sync_words),
     ("MPEG and ADTS, every byte 1 and 2", runs::second_and_third_bytes),
     ("two heads a byte apart, every byte 1 and 2", runs::overlapping_heads),

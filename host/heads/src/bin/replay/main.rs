@@ -16,7 +16,7 @@ use std::process::{Child, Command, ExitCode};
 use std::time::Instant;
 
 const USAGE: &str = "usage: replay [--lines N] [--seed S] [--quick] [PROGRAM]
-  --lines N   lines to ask (default 1000000)
+  --lines N   lines to ask (default 1500000)
   --seed S    seed of everything random (default 1)
   --quick     few lines, for the self-test
   PROGRAM     the program to ask (default target/bin/head)";
@@ -105,12 +105,12 @@ fn at(n: u64, question: &Question, what: &str) -> String {
 /// The options, or `None` where an argument is not understood.
 fn options(mut arguments: impl Iterator<Item = String>) -> Option<Options> {
     let program = "target/bin/head".into();
-    let mut options = Options { lines: 1_000_000, seed: 1, program };
+    let mut options = Options { lines: 1_500_000, seed: 1, program };
     while let Some(argument) = arguments.next() {
         match argument.as_str() {
             "--lines" => options.lines = arguments.next()?.parse().ok()?,
             "--seed" => options.seed = arguments.next()?.parse().ok()?,
-            "--quick" => options.lines = 20_000,
+            "--quick" => options.lines = 30_000,
             flag if flag.starts_with('-') => return None,
             _ => options.program = argument,
         }

@@ -3,15 +3,17 @@
 
 use common::random::Random;
 use heads::line::{Line, MOST_BYTES};
+use heads::records;
+use heads::writes::TABLES;
 
 type Way = fn(&mut Random) -> Vec<u8>;
 
 /// The ways by name.
-pub const WAYS: [(&str, Way); 16] = [
+pub const WAYS: [(&str, Way); 20] = [
     ("empty", |_| Vec::new()),
     ("any bytes", any_bytes),
-    ("other letter", |random| [&[random.pick(b"DSabefrtxz")], &b" 2 77"[..]].concat()),
-    ("letters alone", |random| random.pick(&["d", "s", "d ", "s ", "ds", "s s"]).into()),
+    ("other letter", |random| [&[random.pick(b"DSWabefrtxz")], &b" 2 77"[..]].concat()),
+    ("letters alone", |random| random.pick(&["d", "s", "w", "d ", "s ", "w ", "ds", "s s"]).into()),
     ("no space after the letter", no_space_after_the_letter),
     ("space before", |random| [b" ", &well_formed(random)[..]].concat()),
     ("space behind", |random| [&well_formed(random)[..], b" "].concat()),
@@ -24,6 +26,17 @@ pub const WAYS: [(&str, Way); 16] = [
     ("no hexadecimal digit", no_hexadecimal_digit),
     ("half a byte", half_a_byte),
     ("too many bytes", too_many_bytes),
+    ("no table", |random| {
+        let word =
+            random.pick(&["", "AC3", "ac", "ac33", "eac", "mp3", "mpeg1", "aac", "adt", "0"]);
+        with_word(1, word, random)
+    }),
+    ("a field less or more", a_field_less_or_more),
+    ("tape too long", tape_too_long),
+    ("place over 64 bits", |random| {
+        let more = random.pick(&["18446744073709551616", "99999999999999999999", "-1", "", "1F"]);
+        with_word(2, more, random)
+    }),
 ];
 
 /// A malformed line; each way comes as often as the others.
@@ -40,10 +53,41 @@ fn coded(count: usize, random: &mut Random) -> Vec<u8> {
     line.text()
 }
 
-/// A duration, or a head or a skip with at least one byte.
+/// A head to be written.
+fn written(random: &mut Random) -> Vec<u8> {
+    let table = random.pick(&TABLES);
+    Line::Write(table, records::by_chance(table, random), random.below(40), 40).text()
+}
+
+/// A head to be written with another word in the place of that one, from 0.
+fn with_word(place: usize, word: &str, random: &mut Random) -> Vec<u8> {
+    let text = written(random);
+    let mut words: Vec<&[u8]> = text.split(|&c| c == b' ').collect();
+    words[place] = word.as_bytes();
+    words.join(&b' ')
+}
+
+/// One byte too many, or more.
+fn tape_too_long(random: &mut Random) -> Vec<u8> {
+    let more = random.pick(&[1, 1000]);
+    let room = MOST_BYTES as u64 + 1 + random.below(more);
+    with_word(3, &room.to_string(), random)
+}
+
+/// A head to be written with its last field left out, or with one more.
+fn a_field_less_or_more(random: &mut Random) -> Vec<u8> {
+    let text = written(random);
+    match random.below(2) {
+        0 => text[..text.iter().rposition(|&c| c == b' ').expect("fields")].to_vec(),
+        _ => [&text[..], b" 0"].concat(),
+    }
+}
+
+/// A duration, a head to be written, or a head or a skip with at least one byte.
 fn well_formed(random: &mut Random) -> Vec<u8> {
-    match random.below(4) {
+    match random.below(5) {
         0 => Line::Duration(random.word() as u32, random.word() as u32).text(),
+        1 => written(random),
         _ => coded(1 + random.below(40) as usize, random),
     }
 }
@@ -59,7 +103,10 @@ fn any_bytes(random: &mut Random) -> Vec<u8> {
 fn no_space_after_the_letter(random: &mut Random) -> Vec<u8> {
     let number = random.word() as u32;
     let lines = [Line::Skip(number, vec![0x0B, 0x77]), Line::Duration(number, 48_000)];
-    let mut text = lines[random.below(2) as usize].text();
+    let mut text = match random.below(3) {
+        2 => written(random),
+        line => lines[line as usize].text(),
+    };
     text.remove(1);
     text
 }
@@ -78,7 +125,15 @@ fn number_over_32_bits(random: &mut Random) -> Vec<u8> {
 
 /// A line of any kind with `number` in the place of one of its numbers.
 fn with_number(number: &str, random: &mut Random) -> Vec<u8> {
-    let line = random.pick(&["# 0B 77", "s # FF F1 50", "d # 48000", "d 1024 #"]);
+    let line = random.pick(&[
+        "# 0B 77",
+        "s # FF F1 50",
+        "d # 48000",
+        "d 1024 #",
+        "w mpeg 0 # 4095 1 1 1 9 0 0 0 3 0 0 0 0",
+        "w mpeg 0 4 4095 1 1 1 # 0 0 0 3 0 0 0 0",
+        "w mpeg 0 4 4095 1 1 1 9 0 0 0 3 0 0 0 #",
+    ]);
     line.replace('#', number).into()
 }
 

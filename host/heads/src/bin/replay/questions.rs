@@ -1,9 +1,12 @@
-//! The lines that the replay asks: heads, skips, durations and malformed lines, by chance.
+//! The lines that the replay asks: heads, skips, durations, heads to be written and malformed lines,
+//! by chance.
 
 use crate::malformed;
 use common::random::Random;
 use common::samples::{self, Bytes, KINDS};
 use heads::line::{Line, MOST_BYTES};
+use heads::records;
+use heads::writes::TABLES;
 
 /// Codes that no syntax has.
 const OTHER_CODES: [u32; 6] = [3, 4, 10, 255, 1 << 31, u32::MAX];
@@ -36,11 +39,12 @@ impl Iterator for Questions {
     fn next(&mut self) -> Option<Question> {
         self.left = self.left.checked_sub(1)?;
         let random = &mut self.random;
-        let line = match random.below(16) {
+        let line = match random.below(24) {
             _ if self.left == 0 => head(random),
             0..=7 => head(random),
             8..=11 => skip(random),
             12..=13 => duration(random),
+            14..=21 => write(random),
             _ => malformed::line(random),
         };
         let mut text = line.text();
@@ -110,6 +114,19 @@ fn duration(random: &mut Random) -> Line {
     Line::Duration(samples, rate)
 }
 
+/// A head to be written: mostly one that fits and has room.
+fn write(random: &mut Random) -> Line {
+    let table = random.pick(&TABLES);
+    let fields = records::by_chance(table, random);
+    let room = random.below(MOST_BYTES as u64 + 1);
+    let at = match random.below(8) {
+        0 => random.word() >> random.below(64),
+        1 => room.saturating_sub(random.below(9)),
+        _ => random.below(room.saturating_sub(table.bytes() as u64) + 1),
+    };
+    Line::Write(table, fields, at, room as usize)
+}
+
 fn code_or_other(code: u32, random: &mut Random) -> u32 {
     match random.below(32) {
         0 => random.pick(&OTHER_CODES),
@@ -117,14 +134,19 @@ fn code_or_other(code: u32, random: &mut Random) -> u32 {
     }
 }
 
-/// Another spelling of the same line, by chance: small letters, or zeros in front of its first
-/// number, which may have ten digits.
+/// Another spelling of the same line, by chance: small letters, or zeros in front of its first number
+/// of 32 bits, which may have ten digits.
 fn respell(text: &mut Vec<u8>, random: &mut Random) {
     if random.below(4) == 0 {
         text.make_ascii_lowercase();
     }
     if random.below(16) == 0 {
-        let start = text.iter().position(u8::is_ascii_digit).expect("every line has a number");
+        // Behind the letter w, a table's word and a place come first.
+        let words = if text[0] == b'w' { 3 } else { 0 };
+        let first =
+            text.split_inclusive(|&c| c == b' ').take(words).map(<[u8]>::len).sum::<usize>();
+        let digit = text[first..].iter().position(u8::is_ascii_digit);
+        let start = first + digit.expect("every line has a number");
         let digits = text[start..].iter().take_while(|c| c.is_ascii_digit()).count();
         let zeros = random.below(11 - digits as u64) as usize;
         text.splice(start..start, [b'0'; 10].into_iter().take(zeros));

@@ -5,13 +5,26 @@ use common::counts::{group, Counts};
 use heads::line::Line;
 
 /// The kinds of lines but for the malformed ones: groups, and what is told apart in each.
-const GROUPS: [(&str, &[&str]); 6] = [
+const GROUPS: [(&str, &[&str]); 11] = [
     ("heads read, kind", &["1", "2", "3", "4", "5", "6"]),
     ("heads refused, number", &["1", "2", "3", "4", "5", "6", "7"]),
     ("skips to a sync word, code", &["0", "1", "2"]),
     ("skips to the last byte, code", &["0", "1", "2"]),
     ("skips refused, number", &["7"]),
     ("durations", &["at a rate", "at no rate"]),
+    ("written, table", &["ac3", "eac3", "mpeg", "adts"]),
+    (NOT_WRITTEN[0], &["2", "3", "4", "12", "13"]),
+    (NOT_WRITTEN[1], &["2", "3", "4", "12", "13"]),
+    (NOT_WRITTEN[2], &["2", "3", "4", "5", "12", "13"]),
+    (NOT_WRITTEN[3], &["2", "3", "4", "6", "12", "13"]),
+];
+
+/// Groups of heads that are not written, by table.
+const NOT_WRITTEN: [&str; 4] = [
+    "ac3 not written, number",
+    "eac3 not written, number",
+    "mpeg not written, number",
+    "adts not written, number",
 ];
 
 const MALFORMED: &str = "malformed";
@@ -42,6 +55,8 @@ fn kind(line: &Line, answer: &str) -> (&'static str, String) {
         (Line::Skip(code, _), None) => ("skips to a sync word, code", code.to_string()),
         (Line::Duration(_, 0), _) => ("durations", "at no rate".into()),
         (Line::Duration(..), _) => ("durations", "at a rate".into()),
+        (Line::Write(table, ..), None) => ("written, table", table.word().into()),
+        (Line::Write(table, ..), Some(number)) => (NOT_WRITTEN[*table as usize], number.into()),
         (Line::Malformed(way, _), _) => (MALFORMED, way.to_string()),
     }
 }
