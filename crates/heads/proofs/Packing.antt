@@ -13,7 +13,7 @@ use lib.Pow.{pow-add, pow-pos, pow-mono, pow-lt, shr-shr}
 use lib.Seq.{drop-cons, take-suc, set-at, take-length}
 use borrow.Author.Tests.{lt-ltb, le-ltb, ltb-true, ltb-false}
 use Rattle.heads.specs.Bits.{total, pack, fits, eights, bytesOf}
-use Rattle.heads.specs.Write.{packed}
+use Rattle.heads.specs.Placing.{packed}
 use Rattle.heads.proofs.Pack.{even}
 use Rattle.heads.specs.declared.bits.Packed.{Packed}
 use Rattle.heads.specs.declared.bits.Packed.the-variants.{Number, Unfit}

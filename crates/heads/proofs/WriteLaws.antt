@@ -18,7 +18,8 @@ use Rattle.heads.specs.Adts.{adtsWidths}
 use Rattle.heads.specs.A52.{isAc3, isEac3}
 use Rattle.heads.specs.Numbers.{writeNumber}
 use Rattle.heads.specs.Syntax.{headOf}
-use Rattle.heads.specs.Write.{Draft, ac3List, eac3List, mpegList, adtsList, unfit, headBytes, byReader, writeAnswer, overwrite, Outcome, outcome, leaving, written, taped, numbered, packed, packedHead, placed}
+use Rattle.heads.specs.Write.{Draft, ac3List, eac3List, mpegList, adtsList, unfit, headBytes, byReader, writeAnswer, overwrite, Outcome, outcome, leaving, written, taped, numbered}
+use Rattle.heads.specs.Placing.{packed, packedHead, placed}
 use Rattle.heads.proofs.Pack.{fits-above, pack-above, even}
 use Rattle.heads.proofs.Packing.{bytes-length}
 use Rattle.heads.proofs.Widths.{ac3-many, eac3-many}

@@ -13,5 +13,6 @@ pub mod Promise
 pub mod Duration
 pub mod Host
 pub mod Write
+pub mod Placing
 pub mod WriteCases
 pub mod Order

@@ -1,7 +1,7 @@
 -- Writing a head on a lent tape (document 02, K1): the first 7 bytes of AC-3, 6 of E-AC-3, 4 of MPEG audio, 7 of ADTS,
 -- 'from every field in the order of the standard's syntax table, crc1 given by the caller and unused last bits zero'.
 use mathlib.Core.Path.{_≡_}
-use Prim.Native.Nat.{ℕ, _+_, _-_, _*_, _^_, _≤_}
+use Prim.Native.Nat.{ℕ, _+_, _-_, _≤_}
 use mathlib.Core.Bool.{Bool, false, not, cond, _||_}
 use mathlib.Core.List.{List, [], _∷_, _++_}
 use lib.Dec.{ltb}
@@ -14,8 +14,6 @@ use Rattle.heads.specs.A52.{isAc3, isEac3}
 use Rattle.heads.specs.Mpeg.{mpegWidths, mpegListed}
 use Rattle.heads.specs.Adts.{adtsWidths, adtsListed}
 use Rattle.heads.specs.Syntax.{headOf}
-use Rattle.heads.specs.declared.bits.Packed.{Packed}
-use Rattle.heads.specs.declared.bits.Packed.the-variants.{Number, Unfit}
 use Rattle.heads.specs.declared.fields.Ac3Fields.{Ac3Fields}
 use Rattle.heads.specs.declared.fields.Eac3Fields.{Eac3Fields}
 use Rattle.heads.specs.declared.fields.MpegFields.{MpegFields}
@@ -130,23 +128,6 @@ taped n t = record { number = n; tape = t }
 
 abbrev pub numbered : Outcome → Taped
 numbered o = taped (writeNumber (o .answer)) (o .tape)
-
--- ---- what the private parts answer
-
--- fields at their widths as one number, with u bits of 0 behind them, if they fit
-abbrev pub packed : List ℕ → List ℕ → ℕ → Packed
-packed ws fs u = cond (fits ws fs) (Number (pack ws fs * 2 ^ u)) Unfit
-
--- the bytes of a head as one number, if 13 does not turn it down
-abbrev pub packedHead : Draft → Packed
-packedHead d = cond (unfit d) Unfit (Number (pack (d .widths) (d .fields)))
-
--- and what becomes of that
-abbrev pub placed : AudioSyntax → ℕ → Packed → List ℕ → ℕ → Outcome
-placed s n Unfit tape at = outcome (Refused Field) tape
-placed s n (Number m) tape at =
-    leaving (cond (ltb (length tape) (at + n)) (Refused ShortTape) (byReader (headOf s (bytesOf n m)))) (bytesOf n m)
-    tape at
 
 -- ---- what is proved of it (proofs/Written.antt)
 

@@ -3,7 +3,7 @@ ghost use mathlib.Core.Path.{_≡_};
 ghost use Prim.Native.Nat.{_+_, _≤_};
 ghost use lib.ListN.{length};
 ghost use Rattle.heads.specs.Bits.{total, bytesOf};
-ghost use Rattle.heads.specs.Write.{packed};
+ghost use Rattle.heads.specs.Placing.{packed};
 
 // Fields as one number.
 pub enum Packed {

@@ -15,7 +15,8 @@ dsurmod-bits-requires c κs = search needs
 
 returns : tie.Need-returns
 unfolding ac3TailWidths
-returns c = cc
+returns c =
+    rw (c .before .before .cmixlev-bits .ensures, c .before .surmixlev-bits .ensures, c .dsurmod-bits .ensures)
 
 pub ac3-widths-spec : {M : Type 1} → statement M
 ac3-widths-spec =

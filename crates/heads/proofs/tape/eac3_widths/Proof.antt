@@ -12,7 +12,7 @@ numblkscod-bits-requires c κs = search needs
 
 returns : tie.Need-returns
 unfolding eac3TailWidths
-returns c = cc
+returns c = rw (c .before .fscod2-bits .ensures, c .numblkscod-bits .ensures)
 
 pub eac3-widths-spec : {M : Type 1} → statement M
 eac3-widths-spec = tie.close (tie.spec fscod2-bits-requires numblkscod-bits-requires returns)
