@@ -56,44 +56,6 @@ enum { AUDIO_FRAME_RECORD = 24 };
 uint32_t audio_frame_head(uint32_t code, const uint8_t *head, size_t head_len, uint8_t *out,
                           size_t out_len);
 
-/* Fields of each head, in the order of the standard's syntax table. */
-enum {
-    AUDIO_FRAME_AC3_FIELDS = 11,  /* syncword crc1 fscod frmsizecod bsid bsmod acmod cmixlev surmixlev dsurmod lfeon */
-    AUDIO_FRAME_EAC3_FIELDS = 10, /* syncword strmtyp substreamid frmsiz fscod fscod2 numblkscod acmod lfeon bsid */
-    AUDIO_FRAME_MPEG_FIELDS = 13, /* syncword ID layer protection_bit bitrate_index sampling_frequency padding_bit
-                                     private_bit mode mode_extension copyright original/home emphasis */
-    AUDIO_FRAME_ADTS_FIELDS = 15  /* syncword ID layer protection_absent profile sampling_frequency_index private_bit
-                                     channel_configuration original/copy home copyright_identification_bit
-                                     copyright_identification_start frame_length adts_buffer_fullness
-                                     number_of_raw_data_blocks_in_frame */
-};
-
-/*
- * Writes a head into the middle of a tape: 7 bytes of AC-3, 6 of E-AC-3, 4 of MPEG audio, 7 of ADTS.
- *
- * fields: the head's fields, field_count of them, as listed above; one that acmod (AC-3) or fscod
- * (E-AC-3) leaves out is 0. tape: tape_len lent bytes. at: the place of the head's first byte, from
- * 0. Neither pointer may be null, not even with a length of 0, and the two parts of memory may not
- * overlap.
- *
- * Returns 0 and writes tape[at..at + 7] (6, 4, 7), bits behind the last field as 0, or returns the
- * number of the first ground to refuse the call:
- *   13  a field too large for its width; one that is left out and not 0; a bsid of 11 to 16 for
- *       AC-3, of 0 to 8 for E-AC-3; more or fewer fields than the head has
- *   12  fewer bytes from the place on than the head has
- * and then the number by which audio_frame_head would refuse the head.
- *
- * All other bytes of the tape, and on a refusal all of them, stay as they were.
- */
-uint32_t audio_frame_write_ac3(const uint32_t *fields, size_t field_count, uint8_t *tape,
-                               size_t tape_len, size_t at);
-uint32_t audio_frame_write_eac3(const uint32_t *fields, size_t field_count, uint8_t *tape,
-                                size_t tape_len, size_t at);
-uint32_t audio_frame_write_mpeg(const uint32_t *fields, size_t field_count, uint8_t *tape,
-                                size_t tape_len, size_t at);
-uint32_t audio_frame_write_adts(const uint32_t *fields, size_t field_count, uint8_t *tape,
-                                size_t tape_len, size_t at);
-
 /*
  * The duration of a frame in 90 kHz ticks: (samples * 90000 + rate / 2) / rate, both divisions
  * rounding down, of which the low 32 bits; 0 where rate is 0.

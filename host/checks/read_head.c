@@ -1,6 +1,7 @@
 /* Writes the head of document 01's ADTS frame F from its fields through the C header and reads it again, prints what it
  * says, and fails where the document says otherwise. */
 #include "audio_frame.h"
+#include "audio_frame_write.h"
 
 #include <stdio.h>
 #include <string.h>

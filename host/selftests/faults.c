@@ -2,6 +2,7 @@
  * writers, so that its calls come here and reach the library as __real_audio_frame_head and so on. FAULT says what
  * goes wrong. */
 #include "audio_frame.h"
+#include "audio_frame_write.h"
 
 #include <string.h>
 

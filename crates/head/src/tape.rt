@@ -70,10 +70,10 @@ fn write_head(table: Table, numbers: &[u32], tape: &mut [u8], at: usize) -> u32
         ⌝ }
 {
     match table {
-        Table::Ac3 => heads::audio_frame_write_ac3(&numbers[..11], tape, at),
-        Table::Eac3 => heads::audio_frame_write_eac3(&numbers[..10], tape, at),
-        Table::Mpeg => heads::audio_frame_write_mpeg(&numbers[..13], tape, at),
-        Table::Adts => heads::audio_frame_write_adts(&numbers[..15], tape, at),
+        Table::Ac3 => tapes::audio_frame_write_ac3(&numbers[..11], tape, at),
+        Table::Eac3 => tapes::audio_frame_write_eac3(&numbers[..10], tape, at),
+        Table::Mpeg => tapes::audio_frame_write_mpeg(&numbers[..13], tape, at),
+        Table::Adts => tapes::audio_frame_write_adts(&numbers[..15], tape, at),
     }
 }
 

@@ -1,22 +1,16 @@
-// What a host program calls, on numbers and slices of them: heads read and written, and durations.
+// What a host program calls: heads and durations on numbers and byte slices.
 ghost use mathlib.Core.Path.{_≡_};
 ghost use Prim.Native.Nat.{_≤_, _+_};
 ghost use mathlib.Core.List.{_++_};
 ghost use lib.ListN.{length, take, drop};
 ghost use Rattle.heads.specs.Duration.{duration90k};
-ghost use Rattle.heads.specs.Numbers.{valuesOf, inOrder, writeNumber};
+ghost use Rattle.heads.specs.Numbers.{valuesOf, inOrder};
 ghost use Rattle.heads.specs.Host.{le32, allLe32, recordSize, numberOf, bytesOf, hostNumber, hostBytes};
-ghost use Rattle.heads.specs.Write.{taped, numbered, written, ac3List, eac3List, mpegList, adtsList};
 use crate::info::AudioFrameInfo;
 use crate::info::Head;
 use crate::info::ticks_90k;
 use crate::syntax::AudioSyntax;
 use crate::syntax::CodedSyntax;
-use crate::tape::write_ac3;
-use crate::tape::write_adts;
-use crate::tape::write_eac3;
-use crate::tape::write_mpeg;
-use crate::write::WriteAnswer;
 
 // The bytes of a head's six numbers.
 const RECORD_LEN: usize = 24;
@@ -57,55 +51,6 @@ pub extern "C" fn audio_frame_duration_90k(samples: u32, rate: u32) -> u32
     ensures { λ r. ⌜ r ≡ duration90k samples rate ⌝ }
 {
     ticks_90k(samples, rate)
-}
-
-// The writers. The fields of a head are lent as numbers in the order of its syntax table: 11 for AC-3, 10 for E-AC-3, 13
-// for MPEG audio, 15 for ADTS. Each writes the head at a place of the tape and answers 0, or the refusal's number with
-// the tape as it was: 13 for a field, 12 for too few bytes from the place on, then the reader's own.
-#[no_mangle]
-pub extern "C" fn audio_frame_write_ac3(fields: &[u32], tape: &mut [u8], at: usize) -> u32
-    ensures { λ r. ⌜
-        taped r (now (tape .exit)) ≡ numbered (written (ac3List (now (fields .entry))) (now (tape .entry)) at)
-        ⌝ }
-{
-    write_number(write_ac3(fields, tape, at))
-}
-
-#[no_mangle]
-pub extern "C" fn audio_frame_write_eac3(fields: &[u32], tape: &mut [u8], at: usize) -> u32
-    ensures { λ r. ⌜
-        taped r (now (tape .exit)) ≡ numbered (written (eac3List (now (fields .entry))) (now (tape .entry)) at)
-        ⌝ }
-{
-    write_number(write_eac3(fields, tape, at))
-}
-
-#[no_mangle]
-pub extern "C" fn audio_frame_write_mpeg(fields: &[u32], tape: &mut [u8], at: usize) -> u32
-    ensures { λ r. ⌜
-        taped r (now (tape .exit)) ≡ numbered (written (mpegList (now (fields .entry))) (now (tape .entry)) at)
-        ⌝ }
-{
-    write_number(write_mpeg(fields, tape, at))
-}
-
-#[no_mangle]
-pub extern "C" fn audio_frame_write_adts(fields: &[u32], tape: &mut [u8], at: usize) -> u32
-    ensures { λ r. ⌜
-        taped r (now (tape .exit)) ≡ numbered (written (adtsList (now (fields .entry))) (now (tape .entry)) at)
-        ⌝ }
-{
-    write_number(write_adts(fields, tape, at))
-}
-
-// 0 for a head that was written, or the refusal's number.
-fn write_number(answer: WriteAnswer) -> u32
-    ensures { λ r. ⌜ r ≡ writeNumber answer ⌝ }
-{
-    match answer {
-        WriteAnswer::Written => 0,
-        WriteAnswer::Refused(refusal) => refusal.number(),
-    }
 }
 
 // Kind, length, samples, rate, channels, bit rate or 0.

@@ -1,4 +1,4 @@
-// A head from the numbers of its fields to its bytes on a tape.
+// A head from the numbers of its fields, in the order of the standard's syntax table, to its bytes on a tape.
 ghost use mathlib.Core.Path.{_≡_};
 ghost use Prim.Native.Nat.{_≤_};
 ghost use lib.ListN.{take};
@@ -56,8 +56,8 @@ const ADTS_WIDTHS: [u32; 15] = [
     2, // number_of_raw_data_blocks_in_frame
 ];
 
-// An AC-3 head from the numbers of its fields.
-pub fn write_ac3(fields: &[u32], tape: &mut [u8], at: usize) -> WriteAnswer
+// The first seven bytes of an AC-3 syncframe, from the numbers of its fields.
+pub fn write_ac3_fields(fields: &[u32], tape: &mut [u8], at: usize) -> WriteAnswer
     ensures { λ r. ⌜ outcome r (now (tape .exit)) ≡ written (ac3List (now (fields .entry))) (now (tape .entry)) at ⌝ }
 {
     write_head(AudioSyntax::Ac3, 7, ac3_number(fields), tape, at)
@@ -102,8 +102,8 @@ fn ac3_widths(acmod: usize) -> [u32; 11]
     ]
 }
 
-// An E-AC-3 head from the numbers of its fields.
-pub fn write_eac3(fields: &[u32], tape: &mut [u8], at: usize) -> WriteAnswer
+// The first six bytes of an E-AC-3 syncframe.
+pub fn write_eac3_fields(fields: &[u32], tape: &mut [u8], at: usize) -> WriteAnswer
     ensures { λ r. ⌜ outcome r (now (tape .exit)) ≡ written (eac3List (now (fields .entry))) (now (tape .entry)) at ⌝ }
 {
     write_head(AudioSyntax::Ac3, 6, eac3_number(fields), tape, at)
@@ -157,16 +157,16 @@ fn numblkscod_bits(fscod: u32) -> u32
     if fscod == 3 { 0 } else { 2 }
 }
 
-// An MPEG audio head from the numbers of its fields.
-pub fn write_mpeg(fields: &[u32], tape: &mut [u8], at: usize) -> WriteAnswer
+// The four bytes of an MPEG audio head.
+pub fn write_mpeg_audio_fields(fields: &[u32], tape: &mut [u8], at: usize) -> WriteAnswer
     ensures { λ r. ⌜ outcome r (now (tape .exit)) ≡ written (mpegList (now (fields .entry))) (now (tape .entry)) at ⌝ }
 {
     let number = pack(&MPEG_WIDTHS, fields, 0);
     write_head(AudioSyntax::MpegAudio, 4, number, tape, at)
 }
 
-// An ADTS head from the numbers of its fields.
-pub fn write_adts(fields: &[u32], tape: &mut [u8], at: usize) -> WriteAnswer
+// The first seven bytes of an ADTS frame.
+pub fn write_adts_fields(fields: &[u32], tape: &mut [u8], at: usize) -> WriteAnswer
     ensures { λ r. ⌜ outcome r (now (tape .exit)) ≡ written (adtsList (now (fields .entry))) (now (tape .entry)) at ⌝ }
 {
     let number = pack(&ADTS_WIDTHS, fields, 0);

@@ -12,10 +12,10 @@ use crate::fields::AdtsFields;
 use crate::fields::Eac3Fields;
 use crate::fields::MpegFields;
 use crate::info::Refusal;
-use crate::tape::write_ac3;
-use crate::tape::write_adts;
-use crate::tape::write_eac3;
-use crate::tape::write_mpeg;
+use crate::tape::write_ac3_fields;
+use crate::tape::write_adts_fields;
+use crate::tape::write_eac3_fields;
+use crate::tape::write_mpeg_audio_fields;
 
 // What writing a head answers.
 pub enum WriteAnswer {
@@ -36,6 +36,18 @@ pub enum WriteRefusal {
     Reader(Refusal),
 }
 
+impl WriteAnswer {
+    // 0 for a head that was written, or the refusal's number.
+    pub fn number(self) -> u32
+        ensures { λ r. ⌜ r ≡ writeNumber self ⌝ }
+    {
+        match self {
+            WriteAnswer::Written => 0,
+            WriteAnswer::Refused(refusal) => refusal.number(),
+        }
+    }
+}
+
 impl WriteRefusal {
     pub fn number(self) -> u32
         ensures { λ r. ⌜ r ≡ writeRefusalNumber self ⌝ }
@@ -54,7 +66,7 @@ pub fn write_ac3_header(f: Ac3Fields, tape: &mut [u8], at: usize) -> WriteAnswer
     ensures { λ r. ⌜ writeNumber r ≡ writeNumber (written (ac3Draft f) (now (tape .entry)) at .answer) ⌝ }
 {
     let fields = ac3_listed(f);
-    write_ac3(&fields, tape, at)
+    write_ac3_fields(&fields, tape, at)
 }
 
 // The first six bytes of an E-AC-3 syncframe.
@@ -63,7 +75,7 @@ pub fn write_eac3_header(f: Eac3Fields, tape: &mut [u8], at: usize) -> WriteAnsw
     ensures { λ r. ⌜ writeNumber r ≡ writeNumber (written (eac3Draft f) (now (tape .entry)) at .answer) ⌝ }
 {
     let fields = eac3_listed(f);
-    write_eac3(&fields, tape, at)
+    write_eac3_fields(&fields, tape, at)
 }
 
 // The four bytes of an MPEG audio head.
@@ -72,7 +84,7 @@ pub fn write_mpeg_audio_header(f: MpegFields, tape: &mut [u8], at: usize) -> Wri
     ensures { λ r. ⌜ writeNumber r ≡ writeNumber (written (mpegDraft f) (now (tape .entry)) at .answer) ⌝ }
 {
     let fields = mpeg_listed(f);
-    write_mpeg(&fields, tape, at)
+    write_mpeg_audio_fields(&fields, tape, at)
 }
 
 // The first seven bytes of an ADTS frame.
@@ -81,7 +93,7 @@ pub fn write_adts_header(f: AdtsFields, tape: &mut [u8], at: usize) -> WriteAnsw
     ensures { λ r. ⌜ writeNumber r ≡ writeNumber (written (adtsDraft f) (now (tape .entry)) at .answer) ⌝ }
 {
     let fields = adts_listed(f);
-    write_adts(&fields, tape, at)
+    write_adts_fields(&fields, tape, at)
 }
 
 // The fields in the order of the tables.

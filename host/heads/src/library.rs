@@ -62,6 +62,25 @@ pub fn read_guarded(code: u32, head: &[u8], out_len: usize) -> Result<Answer, To
     check_untouched(&memory).map(|()| answer)
 }
 
+/// Writes a head with these fields at a place of the tape, and returns 0 or the number of the refusal.
+pub fn write_into(table: Table, fields: &[u32], tape: &mut [u8], at: usize) -> u32 {
+    let (fields, count) = (fields.as_ptr(), fields.len());
+    // SAFETY: each pointer and length come from one slice, and the two slices do not overlap.
+    unsafe { writer(table)(fields, count, tape.as_mut_ptr(), tape.len(), at) }
+}
+
+type Writer = unsafe extern "C" fn(*const u32, usize, *mut u8, usize, usize) -> u32;
+
+/// The library's writer of a table.
+fn writer(table: Table) -> Writer {
+    match table {
+        Table::Ac3 => audio_frame_write_ac3,
+        Table::Eac3 => audio_frame_write_eac3,
+        Table::Mpeg => audio_frame_write_mpeg,
+        Table::Adts => audio_frame_write_adts,
+    }
+}
+
 /// The longest tape that [`write_guarded`] lends.
 pub const LONGEST_TAPE: usize = LONGEST_OUT;
 
@@ -83,16 +102,11 @@ pub fn write_guarded(
     at: usize,
 ) -> Result<(u32, Tape), Touched> {
     assert!(room <= LONGEST_TAPE);
-    let write = match table {
-        Table::Ac3 => audio_frame_write_ac3,
-        Table::Eac3 => audio_frame_write_eac3,
-        Table::Mpeg => audio_frame_write_mpeg,
-        Table::Adts => audio_frame_write_adts,
-    };
     let mut memory = PATTERN;
+    // The pointer is made from the whole of `memory`, as in `read_guarded`.
     let tape = memory.as_mut_ptr().wrapping_add(GUARD);
     // SAFETY: `tape` has `room` bytes of `memory`, which `fields`, a slice, does not overlap.
-    let status = unsafe { write(fields.as_ptr(), fields.len(), tape, room, at) };
+    let status = unsafe { writer(table)(fields.as_ptr(), fields.len(), tape, room, at) };
     let mut left = blank();
     left[..room].copy_from_slice(&memory[GUARD..][..room]);
     memory[GUARD..][..room].copy_from_slice(&PATTERN[GUARD..][..room]);

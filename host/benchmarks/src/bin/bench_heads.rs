@@ -1,9 +1,12 @@
 //! Nanoseconds a head: the library through its C export beside the Rust module, in one process,
-//! with one driver and the same buffers.
+//! with one driver and the same buffers. Heads are written beside a plain writer over that module,
+//! which has none of its own.
 
 use common::random::Random;
 use common::samples::{self, Bytes};
 use heads::library::{self, RECORD};
+use heads::records;
+use heads::writes::{Fields, Table, MOST_FIELDS, TABLES};
 use oracle::answers;
 use std::hint::black_box;
 use std::time::Instant;
@@ -30,6 +33,55 @@ fn main() {
         let sample = [(); HEADS].map(|()| without_sync_word(&mut random));
         row(&format!("no sync word, code {code}"), code, &sample);
     }
+    println!("\nns a written head          ours   Rust, same work   ratio");
+    for table in TABLES {
+        let sample = [(); HEADS].map(|()| records::good(table, &mut random));
+        written_row(table, &sample);
+    }
+}
+
+/// Measures and prints the line of a table's writer.
+fn written_row(table: Table, sample: &[Fields; HEADS]) {
+    let [mut ours, mut rust] = [f64::INFINITY; 2];
+    let own = table.fields();
+    for _ in 0..ROUNDS {
+        ours = ours
+            .min(round(sample, |fields, tape| library::write_into(table, &fields[..own], tape, 2)));
+        rust = rust.min(round(sample, |fields, tape| rust_write(table, fields, tape, 2)));
+    }
+    let ratio = rust / ours;
+    println!("{:<22}{ours:>8.2}{rust:>18.2}{ratio:>8.2}", table.word());
+}
+
+/// A plain writer: the fields' widths tested, the bits in one word, the module's own reader asked.
+#[inline(never)]
+fn rust_write(table: Table, fields: &Fields, tape: &mut [u8], at: usize) -> u32 {
+    let widths = table.widths(fields);
+    let mut word = 0u64;
+    let mut bits = 0;
+    for i in 0..MOST_FIELDS {
+        if u64::from(fields[i]) >> widths[i] != 0 {
+            return 13;
+        }
+        word = word << widths[i] | u64::from(fields[i]);
+        bits += widths[i];
+    }
+    let bsid = if table == Table::Ac3 { fields[4] } else { fields[9] };
+    if table == Table::Ac3 && (11..=16).contains(&bsid) || table == Table::Eac3 && bsid <= 8 {
+        return 13;
+    }
+    let size = table.bytes();
+    let Some(part) = tape.get_mut(at..).and_then(|part| part.get_mut(..size)) else {
+        return 12;
+    };
+    let head = (word << (64 - bits)).to_be_bytes();
+    match answers::syntax(table.code()).and_then(|syntax| syntax.parse(&head[..size])) {
+        Some(_) => {
+            part.copy_from_slice(&head[..size]);
+            0
+        }
+        None => 1,
+    }
 }
 
 /// Random bytes that no syntax takes for a head: byte 0 is neither 0B nor FF.
@@ -54,7 +106,7 @@ fn row(name: &str, code: u32, sample: &[Bytes; HEADS]) {
 }
 
 /// Nanoseconds a head of one round.
-fn round(sample: &[Bytes; HEADS], call: impl Fn(&[u8], &mut [u8]) -> u32) -> f64 {
+fn round<T>(sample: &[T; HEADS], call: impl Fn(&T, &mut [u8]) -> u32) -> f64 {
     let mut out = [0; RECORD];
     let start = Instant::now();
     for _ in 0..PASSES {

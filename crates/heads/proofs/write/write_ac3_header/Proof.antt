@@ -8,11 +8,11 @@ use Rattle.heads.proofs.write.write_ac3_header.Tie as tie
 ac3-listed-requires : tie.Need-ac3-listed-requires
 ac3-listed-requires c κs = search needs
 
-slice-aggregate-write-ac3 : tie.Need-slice-aggregate-write-ac3
-slice-aggregate-write-ac3 c = search needs
+slice-aggregate-write-ac3-fields : tie.Need-slice-aggregate-write-ac3-fields
+slice-aggregate-write-ac3-fields c = search needs
 
-write-ac3-requires : tie.Need-write-ac3-requires
-write-ac3-requires c κs = search needs
+write-ac3-fields-requires : tie.Need-write-ac3-fields-requires
+write-ac3-fields-requires c κs = search needs
 
 same-length : tie.Need-same-length
 same-length c = search needs
@@ -23,4 +23,4 @@ returns c = answered (search (listed ac3List) depth 5)
 pub write-ac3-header-spec : {M : Type 1} → statement M
 write-ac3-header-spec =
     tie.close
-    (tie.spec ac3-listed-requires slice-aggregate-write-ac3 write-ac3-requires same-length returns)
+    (tie.spec ac3-listed-requires slice-aggregate-write-ac3-fields write-ac3-fields-requires same-length returns)

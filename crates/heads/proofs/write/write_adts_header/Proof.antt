@@ -8,11 +8,11 @@ use Rattle.heads.proofs.write.write_adts_header.Tie as tie
 adts-listed-requires : tie.Need-adts-listed-requires
 adts-listed-requires c κs = search needs
 
-slice-aggregate-write-adts : tie.Need-slice-aggregate-write-adts
-slice-aggregate-write-adts c = search needs
+slice-aggregate-write-adts-fields : tie.Need-slice-aggregate-write-adts-fields
+slice-aggregate-write-adts-fields c = search needs
 
-write-adts-requires : tie.Need-write-adts-requires
-write-adts-requires c κs = search needs
+write-adts-fields-requires : tie.Need-write-adts-fields-requires
+write-adts-fields-requires c κs = search needs
 
 same-length : tie.Need-same-length
 same-length c = search needs
@@ -25,7 +25,7 @@ write-adts-header-spec =
     tie.close
     (tie.spec
     adts-listed-requires
-    slice-aggregate-write-adts
-    write-adts-requires
+    slice-aggregate-write-adts-fields
+    write-adts-fields-requires
     same-length
     returns)

@@ -8,11 +8,11 @@ use Rattle.heads.proofs.write.write_eac3_header.Tie as tie
 eac3-listed-requires : tie.Need-eac3-listed-requires
 eac3-listed-requires c κs = search needs
 
-slice-aggregate-write-eac3 : tie.Need-slice-aggregate-write-eac3
-slice-aggregate-write-eac3 c = search needs
+slice-aggregate-write-eac3-fields : tie.Need-slice-aggregate-write-eac3-fields
+slice-aggregate-write-eac3-fields c = search needs
 
-write-eac3-requires : tie.Need-write-eac3-requires
-write-eac3-requires c κs = search needs
+write-eac3-fields-requires : tie.Need-write-eac3-fields-requires
+write-eac3-fields-requires c κs = search needs
 
 same-length : tie.Need-same-length
 same-length c = search needs
@@ -25,7 +25,7 @@ write-eac3-header-spec =
     tie.close
     (tie.spec
     eac3-listed-requires
-    slice-aggregate-write-eac3
-    write-eac3-requires
+    slice-aggregate-write-eac3-fields
+    write-eac3-fields-requires
     same-length
     returns)

@@ -8,11 +8,11 @@ use Rattle.heads.proofs.write.write_mpeg_audio_header.Tie as tie
 mpeg-listed-requires : tie.Need-mpeg-listed-requires
 mpeg-listed-requires c κs = search needs
 
-slice-aggregate-write-mpeg : tie.Need-slice-aggregate-write-mpeg
-slice-aggregate-write-mpeg c = search needs
+slice-aggregate-write-mpeg-audio-fields : tie.Need-slice-aggregate-write-mpeg-audio-fields
+slice-aggregate-write-mpeg-audio-fields c = search needs
 
-write-mpeg-requires : tie.Need-write-mpeg-requires
-write-mpeg-requires c κs = search needs
+write-mpeg-audio-fields-requires : tie.Need-write-mpeg-audio-fields-requires
+write-mpeg-audio-fields-requires c κs = search needs
 
 same-length : tie.Need-same-length
 same-length c = search needs
@@ -25,7 +25,7 @@ write-mpeg-audio-header-spec =
     tie.close
     (tie.spec
     mpeg-listed-requires
-    slice-aggregate-write-mpeg
-    write-mpeg-requires
+    slice-aggregate-write-mpeg-audio-fields
+    write-mpeg-audio-fields-requires
     same-length
     returns)

@@ -1,9 +1,9 @@
--- `write_mpeg` meets its contract. Assumes nothing.
-use Rattle.heads.specs.Write.{mpegList}
-use Rattle.heads.proofs.WriteLaws.{drafted, mpeg-packed}
+-- `write_adts_fields` meets its contract. Assumes nothing.
+use Rattle.heads.specs.Write.{adtsList}
+use Rattle.heads.proofs.WriteLaws.{drafted, adts-packed}
 use borrow.Author.Needs.{needs}
-use Rattle.heads.proofs.tape.write_mpeg.Statement.{statement}
-use Rattle.heads.proofs.tape.write_mpeg.Tie as tie
+use Rattle.heads.proofs.tape.write_adts_fields.Statement.{statement}
+use Rattle.heads.proofs.tape.write_adts_fields.Tie as tie
 
 slice-aggregate-pack : tie.Need-slice-aggregate-pack
 slice-aggregate-pack c = search needs
@@ -18,9 +18,9 @@ same-length : tie.Need-same-length
 same-length c = search needs
 
 returns : tie.Need-returns
-unfolding mpegList
-returns c = search (drafted, mpeg-packed) depth 5
+unfolding adtsList
+returns c = search (drafted, adts-packed) depth 5
 
-pub write-mpeg-spec : {M : Type 1} → statement M
-write-mpeg-spec =
+pub write-adts-fields-spec : {M : Type 1} → statement M
+write-adts-fields-spec =
     tie.close (tie.spec slice-aggregate-pack pack-requires write-head-requires same-length returns)
