@@ -1,7 +1,6 @@
 -- A tape as a line, byte by byte, and the head on it. Assumes nothing.
-use mathlib.Core.Path.{_≡_, refl, sym, _∙_, ap}
-use mathlib.Core.Bool.{Bool, true, false, cond}
-use mathlib.Core.List.{List, [], _∷_, _++_, append-assoc, append-nil}
+use mathlib.Core.Path.{_≡_, refl, ap}
+use mathlib.Core.List.{List, [], _∷_, _++_, append-nil}
 use Prim.Native.Nat.{ℕ, zero, suc, _+_, _-_, _/_, _%_, _<_, _≤_}
 use native.Mathlib.Numerals.{add-one}
 use native.Mathlib.Omega.{arith}
@@ -13,7 +12,7 @@ use Rattle.text.specs.Octet.{digitOf}
 use Rattle.text.specs.Output.{Put}
 use Rattle.text.specs.declared.output.Output.{Output}
 use Rattle.text.proofs.Blocks.{put-both}
-use Rattle.heads.specs.Write.{Draft, Taped, taped, numbered, written, ac3List, eac3List, mpegList, adtsList}
+use Rattle.heads.specs.Write.{Taped, taped, numbered, written, ac3List, eac3List, mpegList, adtsList}
 use Rattle.head.specs.Answer.{refusedText, octetText, furtherOctets, spacedOctets}
 use Rattle.head.specs.Tape.{draftOf, tapeText, tapeLine, writeLine}
 use Rattle.head.specs.declared.writing.Table.{Table}

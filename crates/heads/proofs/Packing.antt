@@ -1,7 +1,7 @@
 -- What the loops of src/bits.rt keep: fields go into a number from the first one on, and a number into bytes from the
 -- last one on. Assumes nothing.
 use mathlib.Core.Path.{_≡_, refl, sym, _∙_, ap, subst}
-use mathlib.Core.Bool.{Bool, true, false, cond, _&&_}
+use mathlib.Core.Bool.{Bool, true, false, cond}
 use mathlib.Core.List.{List, [], _∷_, _++_, append-assoc, append-nil}
 use Prim.Native.Nat.{ℕ, zero, suc, _+_, _-_, _*_, _/_, _%_, _^_, _<_, _≤_}
 use native.Mathlib.Nat.{add-assoc, add-comm, zero-add, sub-zero, zero-mul, mul-one, add-zero, add-mul, mul-assoc, mod-eq-of-lt, mod-lt, div-eq-of-lt, div-add-mod', le-mul-of-pos-right, mul-le-mul-right, div-one, le-trans, not-le-of-lt}

@@ -1,16 +1,16 @@
 -- An accepted head's fields write the same bytes, unused bits aside: those of MPEG audio and ADTS have none, AC-3's are
 -- the bits behind lfeon in byte 6, E-AC-3's the low three of byte 5. Assumes nothing.
 use mathlib.Core.Path.{_≡_, refl, sym, _∙_, ap, subst}
-use mathlib.Core.Bool.{Bool, true, false, not, cond, _&&_, _||_}
+use mathlib.Core.Bool.{Bool, true, false, not, cond}
 use mathlib.Core.List.{List, [], _∷_, _++_, append-nil}
-use Prim.Native.Nat.{ℕ, _≤_, _<_, _+_, _-_, _*_, _/_, _%_, _^_}
+use Prim.Native.Nat.{ℕ, _≤_, _<_, _+_, _-_, _/_, _^_}
 use native.Mathlib.Omega.{arith}
 use lib.Dec.{ltb, leb, eqb}
 use lib.ListN.{length, getD, take}
 use borrow.Author.Tests.{lt-ltb, ltb-true, ltb-false}
-use Rattle.heads.specs.Bits.{Bytes, number, total, unpack, pack, fits, eights, bytesOf}
-use Rattle.heads.specs.Ac3.{ac3Fields, ac3Named, ac3Listed, ac3Widths, ac3TailWidths, acmodOf, ac3Judged, ac3Read, ac3Words, ac3Kbps, ac3Rates, nfchans, cmixlevBits, surmixlevBits, dsurmodBits, mixBits}
-use Rattle.heads.specs.Eac3.{eac3Fields, eac3Named, eac3Listed, eac3Widths, eac3TailWidths, fscodOf, eac3Judged, fscod2Bits, numblkscodBits}
+use Rattle.heads.specs.Bits.{Bytes, number, unpack, pack, fits}
+use Rattle.heads.specs.Ac3.{ac3Fields, ac3Named, ac3Listed, ac3Widths, ac3TailWidths, acmodOf, ac3Judged, ac3Read, ac3Words, ac3Kbps, ac3Rates, nfchans, mixBits}
+use Rattle.heads.specs.Eac3.{eac3Fields, eac3Named, eac3Listed, eac3Widths, eac3TailWidths, fscodOf, eac3Judged}
 use Rattle.heads.specs.Judge.{refuseIf}
 use Rattle.heads.specs.Mpeg.{mpegFields, mpegListed, mpegWidths, mpegHead, mpegJudged}
 use Rattle.heads.specs.Adts.{adtsFields, adtsListed, adtsWidths, adtsHead, adtsJudged, adtsRates}
@@ -36,7 +36,6 @@ use Rattle.heads.specs.declared.info.Head.{Head}
 use Rattle.heads.specs.declared.info.Head.the-variants.{Read, Refused as Turned}
 use Rattle.heads.specs.declared.info.Refusal.{Refusal}
 use Rattle.heads.specs.declared.info.Refusal.the-variants.{ShortHead, NoSyncWord, Unsupported, ReservedCode}
-use Rattle.heads.specs.declared.syntax.AudioSyntax.{AudioSyntax}
 use Rattle.heads.specs.declared.syntax.AudioSyntax.the-variants.{Ac3, MpegAudio, AacAdts}
 use Rattle.heads.specs.declared.write.WriteAnswer.the-variants.{Written}
 

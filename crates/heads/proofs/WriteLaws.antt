@@ -1,11 +1,11 @@
 -- Writing a head, from the definitions to the code. Assumes nothing.
 use mathlib.Core.Path.{_≡_, refl, sym, _∙_, ap}
-use mathlib.Core.Bool.{Bool, true, false, not, cond, _&&_, _||_}
+use mathlib.Core.Bool.{Bool, true, false, not, cond, _||_}
 use mathlib.Core.List.{List, [], _∷_, _++_}
-use Prim.Native.Nat.{ℕ, suc, _≤_, _<_, _+_, _-_, _*_, _^_}
+use Prim.Native.Nat.{ℕ, _≤_, _<_, _+_, _-_, _*_, _^_}
 use native.Mathlib.Nat.{mul-one}
 use native.Mathlib.Omega.{arith}
-use lib.Dec.{ltb, leb}
+use lib.Dec.{ltb}
 use lib.ListN.{length, getD, take, drop, length-take, length-append}
 use lib.Seq.{take-at}
 use borrow.Author.Tests.{lt-ltb, le-ltb, le-leb, lt-leb}
@@ -18,7 +18,7 @@ use Rattle.heads.specs.Adts.{adtsWidths}
 use Rattle.heads.specs.A52.{isAc3, isEac3}
 use Rattle.heads.specs.Numbers.{writeNumber}
 use Rattle.heads.specs.Syntax.{headOf}
-use Rattle.heads.specs.Write.{Draft, ac3List, eac3List, mpegList, adtsList, unfit, headBytes, byReader, writeAnswer, overwrite, Outcome, outcome, leaving, written, taped, numbered}
+use Rattle.heads.specs.Write.{Draft, ac3List, eac3List, mpegList, adtsList, unfit, headBytes, byReader, writeAnswer, overwrite, Outcome, outcome, leaving, written}
 use Rattle.heads.specs.Placing.{packed, packedHead, placed}
 use Rattle.heads.proofs.Pack.{fits-above, pack-above, even}
 use Rattle.heads.proofs.Packing.{bytes-length}
@@ -189,8 +189,3 @@ drafted d tape at k o e h = h ∙ rw e (go (unfit d))
 pub listed : (draftOf : List ℕ → Draft) (l m tape : List ℕ) (at : ℕ) (o : Outcome) → l ≡ m
     → o ≡ written (draftOf l) tape at → o ≡ written (draftOf m) tape at
 listed draftOf l m tape at o e h = rw (← e) h
-
--- and its number
-pub told : (n : ℕ) (a : WriteAnswer) (t : List ℕ) (o : Outcome) → n ≡ writeNumber a → outcome a t ≡ o
-    → taped n t ≡ numbered o
-told n a t o e h = rw (e, ← h)

@@ -1,23 +1,22 @@
 -- Written heads and read ones: what is written reads back to the same fields, an accepted head's fields write the same
 -- bytes, unused bits aside, and the writer accepts just what it should. Assumes nothing.
 use mathlib.Core.Path.{_≡_, refl, sym, _∙_, ap}
-use mathlib.Core.Bool.{Bool, true, false, not, cond, _&&_, _||_}
-use mathlib.Core.List.{List, [], _∷_, _++_, append-nil, append-assoc}
-use Prim.Native.Nat.{ℕ, zero, suc, _≤_, _<_, _+_, _-_, _*_, _/_, _%_, _^_}
-use native.Mathlib.Nat.{mod-eq-of-lt}
+use mathlib.Core.Bool.{Bool, true, false, not, cond, _||_}
+use mathlib.Core.List.{List, [], _∷_, _++_, append-assoc}
+use Prim.Native.Nat.{ℕ, _≤_, _+_, _-_}
 use native.Mathlib.Omega.{arith}
-use lib.Dec.{ltb, leb}
-use lib.ListN.{length, getD, take, drop, length-take, length-append, length-drop}
-use lib.Seq.{take-at, drop-at, length-take-le, take-append-le}
-use borrow.Author.Tests.{le-ltb, ltb-true, ltb-false}
-use Rattle.heads.specs.Bits.{Bytes, number, total, unpack, pack, fits, eights, bytesOf}
-use Rattle.heads.specs.Ac3.{ac3Fields, ac3Named, ac3Listed, ac3Widths, ac3TailWidths, acmodOf}
-use Rattle.heads.specs.Eac3.{eac3Fields, eac3Named, eac3Listed, eac3Widths, eac3TailWidths, fscodOf}
+use lib.Dec.{ltb}
+use lib.ListN.{length, getD, take, drop, length-append, length-drop}
+use lib.Seq.{take-at, drop-at, length-take-le}
+use borrow.Author.Tests.{le-ltb, ltb-false}
+use Rattle.heads.specs.Bits.{number, unpack, pack, fits}
+use Rattle.heads.specs.Ac3.{ac3Fields, ac3Named, ac3Listed, ac3Widths, acmodOf}
+use Rattle.heads.specs.Eac3.{eac3Fields, eac3Named, eac3Listed, eac3Widths, fscodOf}
 use Rattle.heads.specs.Mpeg.{mpegFields, mpegNamed, mpegListed, mpegWidths}
 use Rattle.heads.specs.Adts.{adtsFields, adtsNamed, adtsListed, adtsWidths}
-use Rattle.heads.specs.A52.{isAc3, isEac3}
 use Rattle.heads.specs.Syntax.{headOf}
-use Rattle.heads.specs.Write.{Draft, ac3List, eac3List, mpegList, adtsList, ac3Draft, eac3Draft, mpegDraft, adtsDraft, unfit, headBytes, byReader, writeAnswer, overwrite, Outcome, outcome, leaving, written, Accepted, Stands}
+use Rattle.heads.specs.Numbers.{writeNumber}
+use Rattle.heads.specs.Write.{Draft, ac3List, eac3List, mpegList, adtsList, ac3Draft, eac3Draft, mpegDraft, adtsDraft, unfit, headBytes, byReader, writeAnswer, overwrite, Outcome, outcome, leaving, written, taped, numbered, Accepted, Stands}
 use Rattle.heads.proofs.Pack.{not-fit}
 use Rattle.heads.proofs.Bytes.{read-back}
 use Rattle.heads.proofs.Packing.{bytes-length}
@@ -28,10 +27,8 @@ use Rattle.heads.specs.declared.fields.Ac3Fields.{Ac3Fields}
 use Rattle.heads.specs.declared.fields.Eac3Fields.{Eac3Fields}
 use Rattle.heads.specs.declared.fields.MpegFields.{MpegFields}
 use Rattle.heads.specs.declared.fields.AdtsFields.{AdtsFields}
-use Rattle.heads.specs.declared.info.AudioFrameInfo.{AudioFrameInfo}
 use Rattle.heads.specs.declared.info.Head.{Head}
 use Rattle.heads.specs.declared.info.Head.the-variants.{Read, Refused as Turned}
-use Rattle.heads.specs.declared.info.Refusal.{Refusal}
 use Rattle.heads.specs.declared.write.WriteAnswer.{WriteAnswer}
 use Rattle.heads.specs.declared.write.WriteAnswer.the-variants.{Written, Refused}
 use Rattle.heads.specs.declared.write.WriteRefusal.{WriteRefusal}
@@ -108,6 +105,11 @@ module _ (bytes tape : List ℕ) (at : ℕ) (room : at + length bytes ≤ length
   over-length : length (overwrite bytes tape at) ≡ length tape
   unfolding overwrite
   over-length = rw (length-append, length-append, front, length-drop) (omega arith)
+
+-- an outcome by its number
+pub told : (n : ℕ) (a : WriteAnswer) (t : List ℕ) (o : Outcome) → n ≡ writeNumber a → outcome a t ≡ o
+    → taped n t ≡ numbered o
+told n a t o e h = rw (e, ← h)
 
 -- ---- what is written reads back to the same fields
 

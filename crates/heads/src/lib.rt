@@ -1,6 +1,6 @@
 // Heads of audio frames: AC-3 and E-AC-3 (A/52), MPEG audio (ISO/IEC 11172-3, 13818-3) and ADTS (13818-7). What a head
-// says of its frame, or the ground on which it is refused. The layers above go by the contracts here and by
-// proofs/Promise.antt alone.
+// says of its frame, or the ground on which it is refused; and a head from its fields. The layers above go by the
+// contracts here and by proofs/Promise.antt alone, those that write heads by proofs/Written.antt too.
 mod ac3;
 mod adts;
 mod bits;

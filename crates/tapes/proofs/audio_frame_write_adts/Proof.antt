@@ -1,5 +1,5 @@
 -- `audio_frame_write_adts` meets its contract. Assumes nothing.
-use Rattle.heads.proofs.WriteLaws.{told}
+use Rattle.heads.proofs.Written.{told}
 use borrow.Author.Needs.{needs}
 use Rattle.tapes.proofs.audio_frame_write_adts.Statement.{statement}
 use Rattle.tapes.proofs.audio_frame_write_adts.Tie as tie

@@ -1,6 +1,6 @@
 -- `skip_word` is safe and ends.
 use mathlib.Core.Path.{_≡_}
-use Prim.Native.Nat.{_-_, _≤_}
+use Prim.Native.Nat.{_-_}
 use lib.ListN.{length}
 use borrow.Author.Needs.{needs}
 use Rattle.head.proofs.writing.skip_word.Statement.{statement}
