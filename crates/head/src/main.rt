@@ -1,5 +1,5 @@
-// Answers each line of standard input by one line on standard output: the head, the place, the duration or the tape that it
-// asks for, or '?'.
+// Answers each line of standard input by one line on standard output: the head, the place, the duration or the tape
+// that it asks for, or '?'.
 mod answer;
 mod request;
 mod session;

@@ -1,6 +1,6 @@
 // The writers of crate heads for a host that is linked with them. The fields of a head go in as 32 bit numbers, in the
-// order of the standard's syntax table; what comes back is 0, or the refusal's number. They stand apart from crate heads:
-// a library of the readers and the splitter alone is the same with or without them.
+// order of the standard's syntax table; what comes back is 0, or the refusal's number. They stand apart from crate
+// heads, whose archive is the same with or without writers: docs/DECISIONS.md.
 ghost use mathlib.Core.Path.{_≡_};
 ghost use Rattle.heads.specs.Write.{taped, numbered, written, ac3List, eac3List, mpegList, adtsList};
 
