@@ -7,10 +7,11 @@ use lib.ListN.{length, take, drop, set}
 use lib.Pow.{field, mod-mod-pow}
 use lib.Seq.{sets-eq, take-at, drop-append-add, drop-drop}
 use borrow.Author.Tests.{lt-ltb, le-ltb}
-use Rattle.heads.specs.Numbers.{kindNumber, bitRateNumber, refusalNumber, valuesOf, inOrder}
+use Rattle.heads.specs.Numbers.{kindNumber, bitRateNumber, refusalNumber, headAnswer, valuesOf, inOrder}
 use Rattle.heads.specs.Syntax.{headOf, syntaxOf}
-use Rattle.heads.specs.Host.{le32, allLe32, recordSize, numberOf, bytesOf, hostNumber, hostBytes}
+use Rattle.heads.specs.Host.{le32, allLe32, recordSize, withValues, numberOf, bytesOf, hostNumber, hostBytes}
 use Rattle.heads.specs.declared.syntax.AudioSyntax.{AudioSyntax}
+use Rattle.heads.specs.declared.syntax.AudioSyntax.the-variants.{MpegAudio}
 use Rattle.heads.specs.declared.syntax.CodedSyntax.{CodedSyntax}
 use Rattle.heads.specs.declared.syntax.CodedSyntax.the-variants.{Known, Refused as NoSyntax}
 use Rattle.heads.specs.declared.info.AudioFrameInfo.{AudioFrameInfo}
@@ -69,6 +70,24 @@ six i kind rate l l1 l2 l3 l4 l5 l6 ek er e1 e2 e3 e4 e5 e6 =
     let p5 : l5 ≡ e ++ drop 20 l = next d l l4 l5 16 (i .channels) refl p4 e5 in
     next e l l5 l6 20 (bitRateNumber (i .«bit_rate»)) refl p5 (rw er at e6)
 
+-- a head's answer, where its numbers have room
+module _ (x : Head) where
+  pub read-number : (i : AudioFrameInfo) → x ≡ Read i → 0 ≡ headAnswer x .number
+  read-number i e = rw e
+
+  pub read-put : (i : AudioFrameInfo) (out last : List ℕ) → x ≡ Read i
+      → last ≡ allLe32 (inOrder (valuesOf i)) ++ drop recordSize out → last ≡ withValues (headAnswer x) out
+  unfolding le32
+  read-put i out last e l = rw e l
+
+  pub refused-number : (g : Refusal) (r : ℕ) → x ≡ Refused g → r ≡ refusalNumber g → r ≡ headAnswer x .number
+  refused-number g r e l = rw e l
+
+  pub refused-put : (g : Refusal) (out : List ℕ) → x ≡ Refused g → out ≡ withValues (headAnswer x) out
+  refused-put g out e = rw e
+
+pub ruleset answer = (read-number, read-put, refused-number, refused-put)
+
 -- the order of the answers: first the lent bytes, then the head
 module _ (s : AudioSyntax) (b out : List ℕ) where
   pub no-room : length out < recordSize → 12 ≡ numberOf s b (length out)
@@ -80,22 +99,13 @@ module _ (s : AudioSyntax) (b out : List ℕ) where
   no-room-kept q = rw (lt-ltb (length out) recordSize q)
 
   module _ (room : recordSize ≤ length out) (x : Head) (is : x ≡ headOf s b) where
-    pub read-number : (i : AudioFrameInfo) → x ≡ Read i → 0 ≡ numberOf s b (length out)
+    pub answer-number : (r : ℕ) → r ≡ headAnswer x .number → r ≡ numberOf s b (length out)
     unfolding numberOf
-    read-number i e = rw (le-ltb (length out) recordSize room, ← is, e)
+    answer-number r e = rw (le-ltb (length out) recordSize room, ← is) e
 
-    pub read-put : (i : AudioFrameInfo) (last : List ℕ) → x ≡ Read i
-        → last ≡ allLe32 (inOrder (valuesOf i)) ++ drop recordSize out → last ≡ bytesOf s b out
-    unfolding bytesOf le32
-    read-put i last e l = rw (le-ltb (length out) recordSize room, ← is, e) l
-
-    pub refused-number : (g : Refusal) (r : ℕ) → x ≡ Refused g → r ≡ refusalNumber g → r ≡ numberOf s b (length out)
-    unfolding numberOf
-    refused-number g r e l = rw (le-ltb (length out) recordSize room, ← is, e) l
-
-    pub refused-put : (g : Refusal) → x ≡ Refused g → out ≡ bytesOf s b out
+    pub answer-put : (last : List ℕ) → last ≡ withValues (headAnswer x) out → last ≡ bytesOf s b out
     unfolding bytesOf
-    refused-put g e = rw (le-ltb (length out) recordSize room, ← is, e)
+    answer-put last e = rw (le-ltb (length out) recordSize room, ← is) e
 
 -- and before both the code
 module _ (code : ℕ) (b out : List ℕ) (k : CodedSyntax) (is : k ≡ syntaxOf code) where
@@ -116,6 +126,16 @@ module _ (code : ℕ) (b out : List ℕ) (k : CodedSyntax) (is : k ≡ syntaxOf 
   unfolding hostBytes
   put s last e l = rw (← is, e) l
 
+-- code 1 is MPEG audio
+module _ (b out : List ℕ) where
+  pub mpeg-told : (r : ℕ) → r ≡ numberOf MpegAudio b (length out) → r ≡ hostNumber 1 b (length out)
+  unfolding hostNumber syntaxOf
+  mpeg-told r e = e
+
+  pub mpeg-put : (last : List ℕ) → last ≡ bytesOf MpegAudio b out → last ≡ hostBytes 1 b out
+  unfolding hostBytes syntaxOf
+  mpeg-put last e = e
+
 pub ruleset host = (no-syntax, no-syntax-kept, told, put)
 
-pub ruleset host-head = (no-room, no-room-kept, read-number, read-put, refused-number, refused-put)
+pub ruleset host-head = (no-room, no-room-kept, answer-number, answer-put)

@@ -11,6 +11,7 @@ pub mod Columns
 pub mod SyncWord
 pub mod AdtsLaws
 pub mod MpegLaws
+pub mod ChartLaws
 pub mod A52Laws
 pub mod SyntaxLaws
 pub mod HostLaws
@@ -24,6 +25,7 @@ pub mod Local
 pub mod Reported
 pub mod Reached
 pub mod Order
+pub mod Readers
 pub mod WriteCases
 pub mod Promise
 pub mod Written

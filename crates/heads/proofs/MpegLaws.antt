@@ -1,14 +1,17 @@
 -- The MPEG head's definition from its bytes. Assumes nothing.
-use mathlib.Core.Path.{_≡_, sym, _∙_}
+use mathlib.Core.Path.{_≡_, refl, sym, ap, _∙_}
 use mathlib.Core.List.{List}
 use Prim.Native.Nat.{ℕ, _≤_, _<_, _+_, _*_, _/_, _%_}
 use native.Mathlib.Nat.{mul-one}
 use native.Mathlib.Omega.{arith}
-use lib.ListN.{length, getD}
+use mathlib.Core.Bool.{cond}
+use lib.Dec.{eqb}
+use lib.ListN.{length, getD, List·getD-eq-default}
 use borrow.Author.Tests.{lt-ltb, le-ltb}
 use Rattle.heads.specs.Bits.{Bytes, number}
 use Rattle.heads.specs.Judge.{refuseIf}
-use Rattle.heads.specs.Mpeg.{mpegHead, mpegJudged, mpegFields, mpegRead, mpegShape, mpegKbps, mpegRate, mpegChannels}
+use Rattle.heads.proofs.Grounds.{either-is}
+use Rattle.heads.specs.Mpeg.{bitRates, lowBitRates, noRates, ofLayer, mpegRates, lowRates, mpegHead, mpegJudged, mpegFields, mpegRead, mpegShape, mpegKbps, mpegRate, mpegChannels}
 use Rattle.heads.specs.declared.fields.MpegFields.{MpegFields}
 use Rattle.heads.specs.declared.mpeg.MpegShape.{MpegShape}
 use Rattle.heads.specs.declared.info.AudioFrameKind.{AudioFrameKind}
@@ -25,25 +28,23 @@ pub by-fields : (b : List ℕ) → 4 ≤ length b → mpegHead b ≡ mpegJudged 
 unfolding mpegHead refuseIf
 by-fields b l = rw (le-ltb (length b) 4 l)
 
--- the fields that are judged, from the bytes
+-- the fields, from the bytes
 abbrev pub mpegByBytes : List ℕ → MpegFields
-mpegByBytes b =
-    let f = mpegFields b in
-    record {
-      syncword = getD b 0 0 * 16 + getD b 1 0 / 16;
-      id = getD b 1 0 / 8 % 2;
-      layer = getD b 1 0 / 2 % 4;
-      «protection_bit» = f .«protection_bit»;
-      «bitrate_index» = getD b 2 0 / 16;
-      «sampling_frequency» = getD b 2 0 / 4 % 4;
-      «padding_bit» = getD b 2 0 / 2 % 2;
-      «private_bit» = f .«private_bit»;
-      mode = getD b 3 0 / 64;
-      «mode_extension» = f .«mode_extension»;
-      copyright = f .copyright;
-      «original_home» = f .«original_home»;
-      emphasis = f .emphasis;
-    }
+mpegByBytes b = record {
+  syncword = getD b 0 0 * 16 + getD b 1 0 / 16;
+  id = getD b 1 0 / 8 % 2;
+  layer = getD b 1 0 / 2 % 4;
+  «protection_bit» = getD b 1 0 % 2;
+  «bitrate_index» = getD b 2 0 / 16;
+  «sampling_frequency» = getD b 2 0 / 4 % 4;
+  «padding_bit» = getD b 2 0 / 2 % 2;
+  «private_bit» = getD b 2 0 % 2;
+  mode = getD b 3 0 / 64;
+  «mode_extension» = getD b 3 0 / 16 % 4;
+  copyright = getD b 3 0 / 8 % 2;
+  «original_home» = getD b 3 0 / 4 % 2;
+  emphasis = getD b 3 0 % 4;
+}
 
 module _ (b : List ℕ) (byte : Bytes b) where
   pub syncword-is : mpegFields b .syncword ≡ getD b 0 0 * 16 + getD b 1 0 / 16
@@ -58,6 +59,10 @@ module _ (b : List ℕ) (byte : Bytes b) where
   unfolding Bytes number
   layer-is = omega (arith, byte 1, byte 2, byte 3)
 
+  protection-is : mpegFields b .«protection_bit» ≡ getD b 1 0 % 2
+  unfolding Bytes number
+  protection-is = omega (arith, byte 1, byte 2, byte 3)
+
   index-is : mpegFields b .«bitrate_index» ≡ getD b 2 0 / 16
   unfolding Bytes number
   index-is = omega (arith, byte 2, byte 3)
@@ -70,32 +75,55 @@ module _ (b : List ℕ) (byte : Bytes b) where
   unfolding Bytes number
   padding-is = omega (arith, byte 2, byte 3)
 
+  private-is : mpegFields b .«private_bit» ≡ getD b 2 0 % 2
+  unfolding Bytes number
+  private-is = omega (arith, byte 2, byte 3)
+
   mode-is : mpegFields b .mode ≡ getD b 3 0 / 64
   unfolding Bytes number
   mode-is = omega (arith, byte 3)
 
+  extension-is : mpegFields b .«mode_extension» ≡ getD b 3 0 / 16 % 4
+  unfolding Bytes number
+  extension-is = omega (arith, byte 3)
+
+  copyright-is : mpegFields b .copyright ≡ getD b 3 0 / 8 % 2
+  unfolding Bytes number
+  copyright-is = omega (arith, byte 3)
+
+  original-is : mpegFields b .«original_home» ≡ getD b 3 0 / 4 % 2
+  unfolding Bytes number
+  original-is = omega (arith, byte 3)
+
+  emphasis-is : mpegFields b .emphasis ≡ getD b 3 0 % 4
+  unfolding Bytes number
+  emphasis-is = omega (arith, byte 3)
+
+  pub fields-are : mpegByBytes b ≡ mpegFields b
+  fields-are i = record {
+    syncword = sym syncword-is i;
+    id = sym id-is i;
+    layer = sym layer-is i;
+    «protection_bit» = sym protection-is i;
+    «bitrate_index» = sym index-is i;
+    «sampling_frequency» = sym frequency-is i;
+    «padding_bit» = sym padding-is i;
+    «private_bit» = sym private-is i;
+    mode = sym mode-is i;
+    «mode_extension» = sym extension-is i;
+    copyright = sym copyright-is i;
+    «original_home» = sym original-is i;
+    emphasis = sym emphasis-is i;
+  }
+
   -- a head that is long enough is what its bytes say
   pub judged : (x : Head) → 4 ≤ length b → x ≡ mpegJudged (mpegByBytes b) → x ≡ mpegHead b
-  unfolding mpegHead refuseIf
-  judged x p j =
-      let f = mpegFields b in
-      let e : mpegJudged (mpegByBytes b) ≡ mpegJudged f =
-      λ i. mpegJudged (record {
-        syncword = sym syncword-is i;
-        id = sym id-is i;
-        layer = sym layer-is i;
-        «protection_bit» = f .«protection_bit»;
-        «bitrate_index» = sym index-is i;
-        «sampling_frequency» = sym frequency-is i;
-        «padding_bit» = sym padding-is i;
-        «private_bit» = f .«private_bit»;
-        mode = sym mode-is i;
-        «mode_extension» = f .«mode_extension»;
-        copyright = f .copyright;
-        «original_home» = f .«original_home»;
-        emphasis = f .emphasis;
-      }) in
-      rw (le-ltb (length b) 4 p) (j ∙ e)
+  judged x p j = j ∙ ap mpegJudged fields-are ∙ sym (by-fields b p)
+
+-- the fields that are judged fit their widths
+pub in-widths : (f : MpegFields) (b : List ℕ) → f ≡ mpegFields b
+    → ((f .id < 2) × (f .layer < 4) × (f .«bitrate_index» < 16)) × ((f .«sampling_frequency» < 4) × (f .«padding_bit» < 2))
+in-widths f b e = rw e ((omega arith, omega arith, omega arith), (omega arith, omega arith))
 
 -- a shape's length, from the count of its slots: of four bytes, or of one
 pub fours : (k : AudioFrameKind) (s m n p : ℕ) → m ≡ n
@@ -122,3 +150,19 @@ pub reported : (id layer index sf padding mode : ℕ) (shape : MpegShape) (kbps 
     (mpegShape id layer (mpegRate id sf) (mpegKbps id layer index * 1000) padding) (mpegKbps id layer index)
     (mpegRate id sf) (mpegChannels mode)
 reported id layer index sf padding mode shape kbps rate channels k r s c = rw (s, c, k, r)
+
+-- past the end of the tables there is no rate
+pub past-index : (ID layer k : ℕ) → 15 < k → 0 ≡ mpegKbps ID layer k
+unfolding mpegKbps
+past-index ID layer k h =
+    let none : 0 ≡ ofLayer layer noRates =
+    either-is (eqb layer 3) 0 0 (cond (eqb layer 2) 0 0) refl (either-is (eqb layer 2) 0 0 0 refl refl)
+    in
+    rw (List·getD-eq-default bitRates noRates {n = k} h, List·getD-eq-default lowBitRates noRates {n = k} h)
+    (either-is (eqb ID 1) 0 (ofLayer layer noRates) (ofLayer layer noRates) none none)
+
+pub past-rate : (ID k : ℕ) → 2 < k → 0 ≡ mpegRate ID k
+unfolding mpegRate
+past-rate ID k h =
+    rw (List·getD-eq-default mpegRates 0 {n = k} h, List·getD-eq-default lowRates 0 {n = k} h)
+    (either-is (eqb ID 1) 0 0 0 refl refl)

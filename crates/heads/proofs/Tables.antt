@@ -1,26 +1,20 @@
 -- The standards' tables, each tied to its rule or to a second form by a test that is computed over all of its entries.
 -- Assumes nothing.
 use mathlib.Core.Path.{_≡_, refl, sym}
-use mathlib.Core.Bool.{Bool, cond}
+use mathlib.Core.Bool.{cond}
 use mathlib.Core.List.{[], _∷_, map}
 use Prim.Native.Nat.{ℕ, _<_, _+_, _-_, _*_, _/_, _%_, _^_}
 use native.Mathlib.Nat.{mul-assoc, mul-comm, mul-div-mul-right}
 use native.Mathlib.Omega.{arith}
-use lib.Dec.{T, eqb, leb, eqb→eq}
+use lib.Dec.{T, eqb, leb}
 use lib.ListN.{getD}
-use Rattle.heads.proofs.Below.{upTo, below}
+use Rattle.heads.proofs.Below.{upTo, below, agrees, agree}
 use Rattle.heads.specs.Ac3.{ac3Words, ac3Kbps, ac3Rates, nfchans, cmixlevBits, surmixlevBits}
 use Rattle.heads.specs.Eac3.{eac3Rates, eac3Blocks}
 use Rattle.heads.specs.Mpeg.{Layer, layer1, layer2, layer3, lowLayer3, mpegKbps, mpegRate}
 use Rattle.heads.specs.Adts.{adtsRates, adtsChannels}
 
--- two forms agree at every entry below n, and at every row below m
-abbrev agrees : ℕ → (ℕ → ℕ) → (ℕ → ℕ) → Bool
-agrees n f g = upTo n (λ (k : ℕ). eqb (f k) (g k))
-
-agree : (n : ℕ) (f g : ℕ → ℕ) → T (agrees n f g) → (k : ℕ) → k < n → f k ≡ g k
-agree n f g t k h = eqb→eq (f k) (g k) (below n (λ (j : ℕ). eqb (f j) (g j)) t k h)
-
+-- two forms agree at every row below m, and there at every entry below n
 agree-rows : (m n : ℕ) (f g : ℕ → ℕ → ℕ) → T (upTo m (λ (i : ℕ). agrees n (f i) (g i))) → (i k : ℕ) → i < m → k < n
     → f i k ≡ g i k
 agree-rows m n f g t i k h l = agree n (f i) (g i) (below m (λ (j : ℕ). agrees n (f j) (g j)) t i h) k l

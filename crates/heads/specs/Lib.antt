@@ -6,6 +6,7 @@ pub mod Ac3
 pub mod Eac3
 pub mod A52
 pub mod Mpeg
+pub mod Chart
 pub mod Adts
 pub mod Syntax
 pub mod Sync

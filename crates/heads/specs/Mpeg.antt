@@ -202,18 +202,22 @@ mpegRead shape kbps rate channels =
       «bit_rate» = Coded (kbps * 1000);
     })
 
+-- what the fields of an accepted head say
+abbrev pub mpegFacts : MpegFields → Head
+mpegFacts f =
+    let kbps = mpegKbps (f .id) (f .layer) (f .«bitrate_index») in
+    let rate = mpegRate (f .id) (f .«sampling_frequency») in
+    mpegRead (mpegShape (f .id) (f .layer) rate (kbps * 1000) (f .«padding_bit»)) kbps rate (mpegChannels (f .mode))
+
 -- what the fields say: 2, 3, 5, 4
 unfoldable pub mpegJudged : MpegFields → Head
 mpegJudged f =
-    let kbps = mpegKbps (f .id) (f .layer) (f .«bitrate_index») in
-    let rate = mpegRate (f .id) (f .«sampling_frequency») in
     refuseIf (not (eqb (f .syncword) 0xFFF)) NoSyncWord
     (refuseIf (eqb (f .layer) 0) Unsupported
     (refuseIf (eqb (f .«bitrate_index») 0) BitRateIndex
     (refuseIf (eqb (f .«bitrate_index») 15) BitRateIndex
     (refuseIf (eqb (f .«sampling_frequency») 3) ReservedCode
-    (mpegRead (mpegShape (f .id) (f .layer) rate (kbps * 1000) (f .«padding_bit»)) kbps rate
-    (mpegChannels (f .mode)))))))
+    (mpegFacts f)))))
 
 -- 1 before all of them
 unfoldable pub mpegHead : List ℕ → Head

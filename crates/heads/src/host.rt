@@ -4,8 +4,9 @@ ghost use Prim.Native.Nat.{_≤_, _+_};
 ghost use mathlib.Core.List.{_++_};
 ghost use lib.ListN.{length, take, drop};
 ghost use Rattle.heads.specs.Duration.{duration90k};
-ghost use Rattle.heads.specs.Numbers.{valuesOf, inOrder};
-ghost use Rattle.heads.specs.Host.{le32, allLe32, recordSize, numberOf, bytesOf, hostNumber, hostBytes};
+ghost use Rattle.heads.specs.Numbers.{headAnswer, valuesOf, inOrder};
+ghost use Rattle.heads.specs.Host.{le32, allLe32, recordSize, withValues, numberOf, bytesOf, hostNumber, hostBytes};
+use crate::chart::parse_mpeg_audio_header_by_chart;
 use crate::info::AudioFrameInfo;
 use crate::info::Head;
 use crate::info::ticks_90k;
@@ -36,7 +37,27 @@ fn put_head(syntax: AudioSyntax, b: &[u8], out: &mut [u8]) -> u32
     if out.len() < RECORD_LEN {
         return 12;
     }
-    match syntax.parse(b) {
+    put_answer(syntax.parse(b), out)
+}
+
+// An MPEG audio head that is read by the chart: what `audio_frame_head` answers to code 1.
+pub fn put_mpeg_by_chart(b: &[u8], out: &mut [u8]) -> u32
+    ensures { λ r. ⌜ r ≡ hostNumber 1 (now (b .entry)) (length (now (out .entry))) ⌝ }
+    ensures { λ _. ⌜ now (out .exit) ≡ hostBytes 1 (now (b .entry)) (now (out .entry)) ⌝ }
+{
+    if out.len() < RECORD_LEN {
+        return 12;
+    }
+    put_answer(parse_mpeg_audio_header_by_chart(b), out)
+}
+
+// What a head says: 0 and its six numbers, or the number of its refusal.
+fn put_answer(head: Head, out: &mut [u8]) -> u32
+    requires { ⌜ recordSize ≤ length (now out) ⌝ }
+    ensures { λ r. ⌜ r ≡ headAnswer head .number ⌝ }
+    ensures { λ _. ⌜ now (out .exit) ≡ withValues (headAnswer head) (now (out .entry)) ⌝ }
+{
+    match head {
         Head::Read(info) => {
             put_info(out, info);
             0

@@ -4,6 +4,7 @@
 mod ac3;
 mod adts;
 mod bits;
+mod chart;
 mod fields;
 mod host;
 mod info;
@@ -15,12 +16,17 @@ mod write;
 
 pub use ac3::parse_ac3_frame;
 pub use adts::parse_adts_header;
+pub use chart::mpeg_bit_rate;
+pub use chart::mpeg_chart;
+pub use chart::mpeg_sampling_frequency;
+pub use chart::parse_mpeg_audio_header_by_chart;
 pub use fields::Ac3Fields;
 pub use fields::AdtsFields;
 pub use fields::Eac3Fields;
 pub use fields::MpegFields;
 pub use host::audio_frame_duration_90k;
 pub use host::audio_frame_head;
+pub use host::put_mpeg_by_chart;
 pub use info::AudioFrameInfo;
 pub use info::AudioFrameKind;
 pub use info::BitRate;

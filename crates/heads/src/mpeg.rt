@@ -1,8 +1,10 @@
 // MPEG audio, ISO/IEC 11172-3 and, with ID 0, the lower sampling frequencies of 13818-3.
 ghost use mathlib.Core.Path.{_≡_};
 ghost use Prim.Native.Nat.{_≤_, _<_, _*_, _/_};
+ghost use lib.ListN.{length};
 ghost use Rattle.heads.specs.Numbers.{headAnswer};
-ghost use Rattle.heads.specs.Mpeg.{mpegHead, mpegKbps, mpegRate, mpegShape, layer3Shape, mpegChannels};
+ghost use Rattle.heads.specs.Mpeg.{mpegFields, mpegHead, mpegKbps, mpegRate, mpegShape, layer3Shape, mpegChannels};
+use crate::fields::MpegFields;
 use crate::info::AudioFrameInfo;
 use crate::info::AudioFrameKind;
 use crate::info::BitRate;
@@ -169,8 +171,32 @@ pub fn parse_mpeg_audio_header(b: &[u8]) -> Head
     })
 }
 
+// Every field of a head, in the order of the table. The bits of the four bytes, by the fields' first letters (O is
+// original/home, E emphasis, X mode_extension):
+//   ssssssss  ssssillp  bbbbffpp  mmxxcoee
+pub fn mpeg_fields(b: &[u8]) -> MpegFields
+    requires { ⌜ 4 ≤ length (now b) ⌝ }
+    ensures { λ r. ⌜ r ≡ mpegFields (now (b .entry)) ⌝ }
+{
+    MpegFields {
+        syncword: b[0] as u16 * 16 + (b[1] >> 4) as u16,
+        id: (b[1] >> 3) % 2,
+        layer: (b[1] >> 1) % 4,
+        protection_bit: b[1] % 2,
+        bitrate_index: b[2] >> 4,
+        sampling_frequency: (b[2] >> 2) % 4,
+        padding_bit: (b[2] >> 1) % 2,
+        private_bit: b[2] % 2,
+        mode: b[3] >> 6,
+        mode_extension: (b[3] >> 4) % 4,
+        copyright: (b[3] >> 3) % 2,
+        original_home: (b[3] >> 2) % 2,
+        emphasis: b[3] % 4,
+    }
+}
+
 // The bit rate in kbit/s.
-fn mpeg_kbps(id: u8, layer_code: u8, bitrate_index: usize) -> u16
+pub fn mpeg_kbps(id: u8, layer_code: u8, bitrate_index: usize) -> u16
     requires { ⌜ «bitrate_index» < 16 ⌝ }
     ensures { λ r. ⌜ (r ≡ mpegKbps id «layer_code» «bitrate_index») × (r ≤ 448) ⌝ }
 {
@@ -189,7 +215,7 @@ fn mpeg_kbps(id: u8, layer_code: u8, bitrate_index: usize) -> u16
 }
 
 // The sampling frequency in Hz.
-fn mpeg_sample_rate(id: u8, sf_index: usize) -> u32
+pub fn mpeg_sample_rate(id: u8, sf_index: usize) -> u32
     requires { ⌜ «sf_index» < 3 ⌝ }
     ensures { λ r. ⌜ (r ≡ mpegRate id «sf_index») × (0 < r) ⌝ }
 {
@@ -200,7 +226,7 @@ fn mpeg_sample_rate(id: u8, sf_index: usize) -> u32
     }
 }
 
-fn mpeg_channels(mode: u8) -> u16
+pub fn mpeg_channels(mode: u8) -> u16
     ensures { λ r. ⌜ r ≡ mpegChannels mode ⌝ }
 {
     if mode == 3 { 1 } else { 2 }

@@ -10,17 +10,8 @@ returns c = search host-head depth 9
 parse-requires : tie.Need-parse-requires
 parse-requires c κs = search needs
 
-enum-known-info : tie.Need-enum-known-info
-enum-known-info c = search needs
-
-put-info-requires : tie.Need-put-info-requires
-put-info-requires c κs = search needs
-
-enum-known-refusal : tie.Need-enum-known-refusal
-enum-known-refusal c = search needs
-
-number-requires : tie.Need-number-requires
-number-requires c κs = search needs
+put-answer-requires : tie.Need-put-answer-requires
+put-answer-requires c κs = search needs
 
 same-length : tie.Need-same-length
 same-length c = search needs
@@ -28,19 +19,6 @@ same-length c = search needs
 returns-2 : tie.Need-returns-2
 returns-2 c = search host-head depth 9
 
-returns-3 : tie.Need-returns-3
-returns-3 c = search host-head depth 9
-
 pub put-head-spec : {M : Type 1} → statement M
 put-head-spec =
-    tie.close
-    (tie.spec
-    returns
-    parse-requires
-    enum-known-info
-    put-info-requires
-    enum-known-refusal
-    number-requires
-    same-length
-    returns-2
-    returns-3)
+    tie.close (tie.spec returns parse-requires put-answer-requires same-length returns-2)

@@ -1,0 +1,108 @@
+-- The wall chart of lengths: the code's table is the chart, by one test that is computed over all of its entries, and
+-- each entry is the length of its ID, layer, bit rate index and rate index. Assumes nothing.
+use mathlib.Core.Path.{_≡_, refl, ap, _∙_}
+use mathlib.Core.List.{List, [], _∷_}
+use Prim.Native.Nat.{ℕ, zero, suc, _<_, _+_, _-_, _*_}
+use native.Mathlib.Nat.{le-of-suc-le-suc, not-suc-le-zero}
+use native.Mathlib.Omega.{arith}
+use lib.ListN.{length, getD, List·getD-append}
+use lib.Seq.{getD-append-add}
+use borrow.Author.Tests.{eq-eqb, ne-eqb}
+use Rattle.heads.proofs.Below.{agree}
+use Rattle.heads.specs.Mpeg.{Layer, layer1, layer2, layer3, lowLayer3, shaped, mpegShape, layer3Shape}
+use Rattle.heads.specs.declared.mpeg.MpegShape.{MpegShape}
+use Rattle.heads.specs.Chart.{unpadded, forEach, ids, layers, indices, rates, chartRow, layerRows, idRows, chartRows}
+
+-- of lists of n elements for each of some numbers, joined: element j of the list for number i
+pub in-part : {A : Type 0} (d : A) (n : ℕ) (f : ℕ → List A) → ((x : ℕ) → length (f x) ≡ n) → (xs : List ℕ) (i j : ℕ)
+    → i < length xs → j < n → getD (forEach xs f) (i * n + j) d ≡ getD (f (getD xs i 0)) j d
+in-part d n f e [] i j h l = absurd (not-suc-le-zero h)
+in-part d n f e (x ∷ xs) zero j h l =
+    let p : 0 * n + j ≡ j = omega arith in
+    rw p (List·getD-append (f x) (forEach xs f) d j (rw (e x) l))
+in-part d n f e (x ∷ xs) (suc i) j h l =
+    let p : suc i * n + j ≡ length (f x) + (i * n + j) = rw (e x) (omega arith) in
+    rw p (getD-append-add (f x) (forEach xs f) (i * n + j) d ∙ in-part d n f e xs i j (le-of-suc-le-suc h) l)
+
+-- what the chart goes through, by its place there
+id-at : (k : ℕ) → k < 2 → getD ids k 0 ≡ k
+id-at = agree 2 (λ (k : ℕ). getD ids k 0) (λ (k : ℕ). k) tt
+
+layer-at : (k : ℕ) → k < 3 → getD layers k 0 ≡ 3 - k
+layer-at = agree 3 (λ (k : ℕ). getD layers k 0) (λ (k : ℕ). 3 - k) tt
+
+index-at : (k : ℕ) → k < 14 → getD indices k 0 ≡ k + 1
+index-at = agree 14 (λ (k : ℕ). getD indices k 0) (λ (k : ℕ). k + 1) tt
+
+rate-at : (k : ℕ) → k < 3 → getD rates k 0 ≡ k
+rate-at = agree 3 (λ (k : ℕ). getD rates k 0) (λ (k : ℕ). k) tt
+
+-- each entry of the chart is the length that the formula gives
+module _ (ID layer index rate : ℕ) where
+  -- where its row stands
+  abbrev pub rowOf : ℕ
+  rowOf = (ID * 3 + (3 - layer)) * 14 + (index - 1)
+
+  row-at : ID < 2 → 0 < layer → layer < 4 → 0 < index → index < 15 → getD chartRows rowOf [] ≡ chartRow ID layer index
+  unfolding chartRows
+  row-at a b c d e =
+      let k = 3 - layer in
+      let n = index - 1 in
+      let place : rowOf ≡ ID * 42 + (k * 14 + (n * 1 + 0)) = omega arith in
+      let code : 3 - k ≡ layer = omega arith in
+      let next : n + 1 ≡ index = omega arith in
+      ap (λ (p : ℕ). getD chartRows p []) place
+      ∙ in-part [] 42 idRows (λ (x : ℕ). refl) ids ID (k * 14 + (n * 1 + 0)) a (omega arith)
+      ∙ ap (λ (x : ℕ). getD (idRows x) (k * 14 + (n * 1 + 0)) []) (id-at ID a)
+      ∙ in-part [] 14 (layerRows ID) (λ (x : ℕ). refl) layers k (n * 1 + 0) (omega arith) (omega arith)
+      ∙ ap (λ (x : ℕ). getD (layerRows ID x) (n * 1 + 0) []) (layer-at k (omega arith) ∙ code)
+      ∙ in-part [] 1 (λ (x : ℕ). chartRow ID layer x ∷ []) (λ (x : ℕ). refl) indices n 0 (omega arith) (omega arith)
+      ∙ ap (chartRow ID layer) (index-at n (omega arith) ∙ next)
+
+  pub entry : ID < 2 → 0 < layer → layer < 4 → 0 < index → index < 15 → rate < 3
+      → getD (getD chartRows rowOf []) rate 0 ≡ unpadded ID layer index rate
+  entry a b c d e f =
+      let cell : rate ≡ rate * 1 + 0 = omega arith in
+      ap (λ (row : List ℕ). getD row rate 0) (row-at a b c d e)
+      ∙ ap (λ (p : ℕ). getD (chartRow ID layer index) p 0) cell
+      ∙ in-part 0 1 (λ (x : ℕ). unpadded ID layer index x ∷ []) (λ (x : ℕ). refl) rates rate 0 f (omega arith)
+      ∙ ap (unpadded ID layer index) (rate-at rate f)
+
+-- a frame's shape by its unpadded length: padding is a slot more, of four bytes or of one
+abbrev shape : ℕ → Layer → MpegShape
+shape len l = record { «frame_len» = len; samples = l .samples; kind = l .kind }
+
+fours : (l : Layer) (rate bits padding len : ℕ) → l .slot ≡ 4 → len ≡ shaped l rate bits 0 .«frame_len»
+    → shape (len + padding * 4) l ≡ shaped l rate bits padding
+fours l rate bits padding len four e = ap (λ (n : ℕ). shape n l) (rw (e, four) (omega arith))
+
+ones : (l : Layer) (rate bits padding len : ℕ) → l .slot ≡ 1 → len ≡ shaped l rate bits 0 .«frame_len»
+    → shape (len + padding) l ≡ shaped l rate bits padding
+ones l rate bits padding len one e = ap (λ (n : ℕ). shape n l) (rw (e, one) (omega arith))
+
+module _ (ID layer rate bits padding len : ℕ) (is : len ≡ mpegShape ID layer rate bits 0 .«frame_len») where
+  pub in-layer1 : layer ≡ 3 → shape (len + padding * 4) layer1 ≡ mpegShape ID layer rate bits padding
+  unfolding mpegShape
+  in-layer1 e = let t = eq-eqb layer 3 e in rw t (fours layer1 rate bits padding len refl (rw t at is))
+
+  pub in-layer2 : layer ≡ 2 → shape (len + padding) layer2 ≡ mpegShape ID layer rate bits padding
+  unfolding mpegShape
+  in-layer2 e = rw e (ones layer2 rate bits padding len refl (rw e at is))
+
+  module _ (not1 : layer ≡ 3 → ⊥) (not2 : layer ≡ 2 → ⊥) where
+    pub in-layer3 : ID ≡ 1 → shape (len + padding) layer3 ≡ mpegShape ID layer rate bits padding
+    unfolding mpegShape layer3Shape
+    in-layer3 e =
+        let s = ne-eqb layer 3 not1 in
+        let t = ne-eqb layer 2 not2 in
+        rw (s, t, e) (ones layer3 rate bits padding len refl (rw (s, t, e) at is))
+
+    pub in-low-layer3 : (ID ≡ 1 → ⊥) → shape (len + padding) lowLayer3 ≡ mpegShape ID layer rate bits padding
+    unfolding mpegShape layer3Shape
+    in-low-layer3 d =
+        let s = ne-eqb layer 3 not1 in
+        let t = ne-eqb layer 2 not2 in
+        let u = ne-eqb ID 1 d in
+        rw (s, t, u) (ones lowLayer3 rate bits padding len refl (rw (s, t, u) at is))
+
+pub ruleset by-layer = (in-layer1, in-layer2, in-layer3, in-low-layer3)

@@ -1,0 +1,54 @@
+-- What the chart and the tables say. Assumes nothing.
+use borrow.Author.Needs.{needs}
+use Rattle.heads.proofs.chart.facts_by_chart.Statement.{statement}
+use Rattle.heads.proofs.chart.facts_by_chart.Tie as tie
+
+cast-mpeg-kbps : tie.Need-cast-mpeg-kbps
+cast-mpeg-kbps c = search needs
+
+mpeg-kbps-requires : tie.Need-mpeg-kbps-requires
+mpeg-kbps-requires c κs = search needs
+
+cast-bitrate : tie.Need-cast-bitrate
+cast-bitrate c = search needs
+
+mul-bitrate : tie.Need-mul-bitrate
+mul-bitrate c = search needs
+
+cast-mpeg-sample-rate : tie.Need-cast-mpeg-sample-rate
+cast-mpeg-sample-rate c = search needs
+
+mpeg-sample-rate-requires : tie.Need-mpeg-sample-rate-requires
+mpeg-sample-rate-requires c κs = search needs
+
+chart-shape-requires : tie.Need-chart-shape-requires
+chart-shape-requires c κs = search needs
+
+mpeg-channels-requires : tie.Need-mpeg-channels-requires
+mpeg-channels-requires c κs = search needs
+
+returns : tie.Need-returns
+returns c =
+    let shaped = c .before in
+    let rated = shaped .before in
+    let coded = rated .before .before in
+    rw (
+      shaped .chart-shape .ensures,
+      coded .mpeg-kbps .ensures .0,
+      rated .mpeg-sample-rate .ensures .0,
+      c .mpeg-channels .ensures,
+    )
+
+pub facts-by-chart-spec : {M : Type 1} → statement M
+facts-by-chart-spec =
+    tie.close
+    (tie.spec
+    cast-mpeg-kbps
+    mpeg-kbps-requires
+    cast-bitrate
+    mul-bitrate
+    cast-mpeg-sample-rate
+    mpeg-sample-rate-requires
+    chart-shape-requires
+    mpeg-channels-requires
+    returns)
