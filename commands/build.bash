@@ -2,6 +2,9 @@
 # Sourced by the commands: the proved program, which is built where it is missing or older than what
 # it is made of. $root is the repository, $program_name the program's crate, $program its file.
 
+# All commands build into the same folder, so one builds at a time.
+lock_file=$root/target/commands.lock
+
 # made_of CRATE: the crate and those that it depends on by crates.txt, into the list $crates.
 # Libraries of the toolchain have no line there.
 made_of() {
@@ -38,16 +41,18 @@ current() {
     -newer "$program" -print -quit)" ]
 }
 
-# Brings the program up to date. One command builds at a time; one that has waited looks again.
+# ensure_built NAME: brings the program of that name up to date. One that has waited for another
+# command looks again.
 ensure_built() {
   local lock
+  program_name=$1 program=$root/target/bin/$1
   if current; then return; fi
   command -v rt >/dev/null || no_rt
   mkdir -p "$root/target" 2>/dev/null
-  { exec {lock}>>"$root/target/$program_name.lock"; } 2>/dev/null ||
+  { exec {lock}>>"$lock_file"; } 2>/dev/null ||
     fail "the program has to be built, but nothing can be written to $(typed "$root/target")"
   if command -v flock >/dev/null && ! flock -n "$lock"; then
-    say "another command is building the program; waiting for it"
+    say "another command is building; waiting for it"
     flock "$lock"
   fi
   current || build
@@ -64,13 +69,13 @@ no_rt() {
     "If it was built from just these sources, say so by:" "  touch $(typed "$program")"
 }
 
-# The program is proved before it is built, which takes the time. rt must not read the stream
+# The program is proved before it is built, which takes the time. rt must not read standard input
 # meanwhile. It takes a crate whose files have not changed for done, even where the program itself
 # is gone: only without its record of that does it link the program again. The program then gets the
 # time at which the build began: a change that was made meanwhile is newer, and a build that had
 # nothing to do is not asked for again.
 build() {
-  local began=$root/target/$program_name.lock crates=()
+  local began=$lock_file crates=()
   [ ! -f "$root/crates.txt" ] || made_of "$program_name"
   if [ -x "$program" ]; then
     say "the sources are newer than the program: proving and building the program again"

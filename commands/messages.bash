@@ -4,6 +4,10 @@
 # Statuses: 0 done; 1 something could not be read, written, built or run; 2 wrong usage; 3 the
 # stream has no frame.
 
+# What a command shows of its progress would stand before a message. Those that show none have
+# nothing to stop; the part stream has its own.
+stop_progress() { true; }
+
 # say LINE..: a message on standard error, its further lines below the first.
 say() {
   stop_progress

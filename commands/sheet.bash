@@ -18,11 +18,7 @@ judge_sheet() {
 
 # The parts that only a message about a cause needs.
 load_causes() {
-  local part
-  for part in tags causes formats; do
-    # shellcheck source=/dev/null
-    . "$root/commands/$part.bash"
-  done
+  load tags causes formats
   file_typed=$(typed_file) command_typed=$(own_command)
 }
 

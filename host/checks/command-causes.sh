@@ -6,7 +6,7 @@ cause_parts=(corners demos outputs losses wrong_codes tags_before tags_behind ta
   tag_names long_tags formats other_sound ffmpeg_lines junk unknown)
 
 # The command as it has to be typed.
-shown=$command
+shown=$folder/cutsheet
 case $shown in *[!A-Za-z0-9_./:+,@%=-]*) shown=${shown@Q} ;; esac
 demo=$root/demo
 mp3=$demo/mp3-44100-stereo-112k.mp3

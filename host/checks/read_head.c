@@ -1,6 +1,7 @@
 /* Writes the head of document 01's ADTS frame F from its fields through the C header and reads it again, prints what it
- * says, and fails where the document says otherwise. */
+ * says, and fails where the document says otherwise. It is linked with all archives. */
 #include "audio_frame.h"
+#include "audio_frame_chart.h"
 #include "audio_frame_write.h"
 
 #include <stdio.h>
@@ -11,6 +12,17 @@ static uint32_t number(const uint8_t *out, size_t i)
 {
     const uint8_t *b = out + 4 * i;
     return b[0] | (uint32_t)b[1] << 8 | (uint32_t)b[2] << 16 | (uint32_t)b[3] << 24;
+}
+
+/* Whether the chart reader answers to document 01's H5 in another way than the present one. */
+static int chart_differs(void)
+{
+    const uint8_t head[] = {0xFF, 0xFB, 0x90, 0xC0};
+    uint8_t out[AUDIO_FRAME_RECORD], by_chart[AUDIO_FRAME_RECORD];
+
+    return audio_frame_head(AUDIO_FRAME_MPEG, head, sizeof head, out, sizeof out) != 0 ||
+           audio_frame_head_by_chart(head, sizeof head, by_chart, sizeof by_chart) != 0 ||
+           memcmp(by_chart, out, sizeof out) != 0;
 }
 
 int main(void)
@@ -50,6 +62,7 @@ int main(void)
 
     /* One byte short of the head: number 1. */
     wrong |= audio_frame_head(AUDIO_FRAME_ADTS, head, sizeof head - 1, out, sizeof out) != 1;
+    wrong |= chart_differs();
     /* Document 01's D1. */
     wrong |= audio_frame_duration_90k(65536, 1) != 1603272704;
     if (wrong)

@@ -1,25 +1,27 @@
 # shellcheck shell=bash disable=SC2016,SC2034,SC2154
-# Sourced by host/checks/command --selftest: wrong commands. Each is a copy of the command with
-# another text, beside the right program; the named part of the check must catch it.
+# Sourced by host/checks/command --selftest: wrong commands. Each is a copy of the commands with
+# another text, beside the right programs; the named part of the check must catch it.
 
-# wrong PART NAME OLD NEW: OLD stands exactly once in the command and its parts. The check is begun.
+# wrong PART NAME OLD NEW: OLD stands exactly once in the commands and their parts. The check is
+# begun; its part is one of ./cutsheet, unless another command's name stands before it.
 wrong() {
-  local file found=()
+  local part=$1 file found=()
+  [[ $part == */* ]] || part=cutsheet/$part
   dir=$mutants/$2
-  copy_command "$dir"
-  for file in "$dir/cutsheet" "$dir"/commands/*; do
+  copy_commands "$dir"
+  for file in "$dir"/{cutsheet,chart} "$dir"/commands/*; do
     [[ $(<"$file") != *"$3"* ]] || found+=("$file")
   done
   [ ${#found[@]} -eq 1 ] || { echo "$2: '$3' stands in ${#found[@]} files" >&2; exit 1; }
   replace "${found[0]}" "$3" "$4"
-  start "$dir" env PARTS="$1" LIMIT=4 "$check" "$dir/cutsheet"
+  start "$dir" env PARTS="$part" LIMIT=4 "$check" "$dir"
   names+=("$2")
 }
 
-copy_command() {
+copy_commands() {
   mkdir -p "$1/target/bin"
-  cp -R cutsheet commands "$1"
-  cp target/bin/cutsheet "$1/target/bin"
+  cp -R cutsheet chart commands "$1"
+  cp target/bin/{cutsheet,chart} "$1/target/bin"
 }
 
 selftest() {
@@ -28,12 +30,13 @@ selftest() {
   . host/shared/mutants.sh
   rm -rf "$mutants"
   # A copy that is right must pass, or nothing follows from a wrong one that does not.
-  copy_command "$mutants/right"
-  "$check" "$mutants/right/cutsheet" || exit 1
+  copy_commands "$mutants/right"
+  "$check" "$mutants/right" || exit 1
   wrong_ends
   wrong_reads
   wrong_usage
   wrong_builds
+  wrong_charts
   wrong_verdicts
   wrong_looks
   wrong_tags
@@ -55,17 +58,15 @@ wrong_ends() {
   wrong signals only-the-program-is-ended 'kill -KILL $cutter $reader $passer $watcher $!' 'kill -KILL $cutter'
   wrong signals tee-is-not-ended 'kill -KILL $cutter $reader $passer $watcher $!' 'kill -KILL $cutter $reader'
   wrong signals ended-with-status-1 'kill -s "$1" $$' 'exit 1'
-  wrong unwritable closed-descriptors-stay '{ true <&0; } 2>/dev/null || exec </dev/null
-true >&2 || exec 2>/dev/null
+  wrong descriptors closed-descriptors-stay '  { true <&0; } 2>/dev/null || exec </dev/null
+  true >&2 || exec 2>/dev/null
 ' ''
   wrong names input-stays-open '  exec {feed}>&-
 ' ''
   wrong program messages-lost '[ -z "$message" ] || fail' 'true || fail'
-  wrong unwritable left-output-is-success '[ -z "$(trap -p PIPE)" ]; then exit 1' \
-    '[ -z "$(trap -p PIPE)" ]; then exit 0'
-  wrong unwritable left-output-is-reported '[ -z "$(trap -p PIPE)" ]; then exit 1' \
-    '[ -z "$(trap -p PIPE)" ]; then fail "nobody reads"'
-  wrong unwritable full-output-is-silent 'if { [ -p /dev/fd/3 ] || [ -S /dev/fd/3 ]; } &&' 'if'
+  wrong unwritable left-output-is-success 'if can_be_left; then exit 1' 'if can_be_left; then exit 0'
+  wrong unwritable left-output-is-reported 'if can_be_left; then exit 1' 'if can_be_left; then fail "nobody reads"'
+  wrong descriptors full-output-is-silent '{ [ -p /dev/fd/3 ] || [ -S /dev/fd/3 ]; } && ' ''
   wrong unwritable ignored-pipes-are-silent ' && [ -z "$(trap -p PIPE)" ]' ''
   wrong unwritable tee-goes-on 'tee --output-error=exit' tee
   wrong program status-of-the-program-lost 'the program failed with status $status' 'the program failed with status 1'
@@ -93,7 +94,7 @@ wrong_reads() {
   wrong unreadable missing-files-opened '[ -e "$file" ] ||' 'true ||'
   wrong unreadable closed-input-opened '{ exec {stream}<&0; } 2>/dev/null || fail "standard input is closed"' \
     '{ exec {stream}<&0; } 2>/dev/null || exec {stream}</dev/null'
-  wrong unwritable closed-output-written \
+  wrong descriptors closed-output-written \
     '{ exec 3>&1; } 2>/dev/null || fail "cannot write: standard output is closed"' \
     '{ exec 3>&1; } 2>/dev/null || exec 3>/dev/null'
   wrong names no-line-feed-behind-the-code "printf '%s\\n' \"\$code\"; hand_on" "printf '%s' \"\$code\"; hand_on"
@@ -111,10 +112,10 @@ wrong_usage() {
   wrong streams mpeg-is-0 '1 | mpeg) code=1' '1 | mpeg) code=0'
   wrong names dashes-are-a-file '[ "${1-}" != -- ] || shift
 ' ''
-  wrong names help-behind-dashes '    --) break ;;
+  wrong names help-behind-dashes '      --) return ;;
 ' ''
   wrong usage two-files '[ $# -le 1 ] || misused "one stream at a time"' 'true'
-  wrong names no-symbolic-links '[ ! -L "$root" ] ||' 'true ||'
+  wrong places no-symbolic-links '[ ! -L "$root" ] ||' 'true ||'
   wrong tag_names no-folder-but-this 'case $root in */*) root=${root%/*} ;; *) root=. ;; esac' 'root=${root%/*}'
   wrong help no-endings '.mp1 .mp2 .mp3 .mpa .m2a' '.mp3'
   wrong help no-status-3 '3 the stream has' '4 the stream has'
@@ -151,6 +152,54 @@ wrong_builds() {
   wrong relinking all-stamps-removed 'rm -f "$root/target/stamp/$program_name"' 'rm -rf "$root/target/stamp"'
   wrong locking no-lock 'if command -v flock >/dev/null && ! flock -n "$lock"' 'if false'
   wrong locking not-looked-at-again 'current || build' build
+}
+
+wrong_charts() {
+  wrong chart/forms table-is-ignored 'run_program "$@"
+' 'run_program
+'
+  wrong chart/forms always-the-table 'run_program "$@"
+' 'run_program --table
+'
+  wrong chart/words any-word-is-taken '0: | 1:--table) ;;' '0: | 1:*) ;;'
+  wrong chart/words other-words-for-table '0: | 1:--table) ;;' '0: | 1:--table) ;;
+  1:*ta*) set -- --table ;;'
+  wrong chart/words other-words-for-the-list '  1:*) misused' '  1:-*) set -- ;;
+  1:*) misused'
+  wrong chart/words words-behind-table '  *) misused "too many' '  *:--table) set -- --table ;;
+  *) misused "too many'
+  wrong chart/explained help-of-another-command 'commands/$me.txt' 'commands/cutsheet.txt'
+  wrong chart/explained failed-help-is-success '.txt" && exit 0 || exit 1' '.txt"; exit 0'
+  wrong chart/explained padding-of-one-byte 'by 4 bytes in Layer I,' 'by 1 byte in Layer I,'
+  wrong chart/lookup lines-from-0 '+ sampling_frequency + 1
+' '+ sampling_frequency
+'
+  wrong chart/lookup layers-the-other-way '(ID * 3 + (3 - layer))' '(ID * 3 + (layer - 1))'
+  wrong chart/lookup fifteen-indices '* 14 + bitrate_index' '* 15 + bitrate_index'
+  wrong chart/lookup another-line '= 235, and ./chart | sed -n 235p' '= 234, and ./chart | sed -n 234p'
+  wrong chart/lookup another-line-shown '| sed -n 235p' '| sed -n 253p'
+  wrong chart/input program-reads-on '"$@" </dev/null 2>&1' '"$@" 2>&1'
+  wrong chart/input command-reads-on 'ensure_built chart
+' 'ensure_built chart
+cat >/dev/null
+'
+  wrong chart/input build-reads-on 'rt check "$program_name" </dev/null 2>&1' 'rt check "$program_name" 2>&1'
+  wrong chart/program messages-hidden '</dev/null 2>&1 >&3' '</dev/null 2>/dev/null >&3'
+  wrong chart/program messages-among-the-lengths '</dev/null 2>&1 >&3' '</dev/null 2>&3 >&3'
+  wrong chart/program always-success 'run_program "$@"
+check_written' 'run_program "$@"'
+  wrong chart/program name-said-twice '${message#"$program_name": }' '$message'
+  wrong chart/killed signals-lost 'status=$? passed_on=0' 'status=$(($? & 127)) passed_on=0'
+  wrong chart/killed broken-pipe-in-a-file '-eq 141 ] && can_be_left; then' '-eq 141 ]; then'
+  wrong chart/descriptors nobody-not-seen 'if [ "$status" -eq 141 ] &&' 'if false &&'
+  wrong chart/descriptors printed-among-the-messages 'fail "cannot write: standard output is closed"' 'exec 3>&2'
+  wrong chart/descriptors success-on-a-full-disk '[ -z "$message" ] || fail' '[ -z "$message" ] || say'
+  wrong chart/descriptors progress-of-nothing 'stop_progress() { true; }' ''
+  wrong chart/places parts-beside-the-link 'me=chart
+here=$(readlink -f -- "${BASH_SOURCE[0]}")' 'me=chart
+here=${BASH_SOURCE[0]}'
+  wrong chart/first_use program-of-another-command 'ensure_built chart' 'ensure_built cutsheet'
+  wrong chart/turns lock-for-each-program 'exec {lock}>>"$lock_file"' 'exec {lock}>>"$lock_file-$program_name"'
 }
 
 wrong_verdicts() {

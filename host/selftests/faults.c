@@ -1,7 +1,8 @@
-/* Wrong libraries for host/selftests/heads. The runner is linked with --wrap for audio_frame_head and the four
- * writers, so that its calls come here and reach the library as __real_audio_frame_head and so on. FAULT says what
- * goes wrong. */
+/* Wrong libraries for host/selftests/heads. The runner is linked with --wrap for audio_frame_head, the chart reader and
+ * the four writers, so that its calls come here and reach the library as __real_audio_frame_head and so on. FAULT says
+ * what goes wrong. */
 #include "audio_frame.h"
+#include "audio_frame_chart.h"
 #include "audio_frame_write.h"
 
 #include <string.h>
@@ -34,6 +35,22 @@ enum fault {
     WRITES_UNUSED_BITS,
     WRITES_ONE_FIELD_MORE,
     WRITES_NEAR_THE_LARGEST_PLACE,
+    CHART_PADS_LAYER_I_BY_1,
+    CHART_PADS_LAYER_II_BY_4,
+    CHART_HAS_TWO_RATES_EXCHANGED,
+    CHART_HAS_TWO_LAYERS_EXCHANGED,
+    CHART_HAS_ONE_WRONG_LENGTH,
+    CHART_IS_WRONG_AT_ONE_HEAD,
+    CHART_TAKES_INDEX_15,
+    CHART_TESTS_4_BEFORE_5,
+    CHART_TESTS_HEAD_BEFORE_12,
+    CHART_ANSWERS_1_TO_A_SHORT_OUT,
+    CHART_WRITES_ON_REFUSAL,
+    CHART_WRITES_ON_12,
+    CHART_CHANGES_BYTE_24,
+    CHART_CHANGES_BYTE_BEHIND_OUT,
+    CHART_READS_PAST_HEAD,
+    CHART_HAS_ONE_CHANNEL,
 };
 
 /* A writer of the library. */
@@ -127,5 +144,76 @@ uint32_t __wrap_audio_frame_head(uint32_t code, const uint8_t *head, size_t head
         out[23] ^= 1;
     if (fault == WRITES_ON_12 && status == 12 && out_len > 0)
         out[0] ^= 1;
+    return status;
+}
+
+typedef uint32_t chart_reader(const uint8_t *head, size_t head_len, uint8_t *out, size_t out_len);
+chart_reader __real_audio_frame_head_by_chart, __wrap_audio_frame_head_by_chart;
+
+/* A head's indices as the fault takes them. Byte 2 has bitrate_index as 0xF0 and sampling_frequency as 0x0C. */
+static void take_wrongly(uint8_t *head)
+{
+    enum fault fault = FAULT;
+    int index = head[2] >> 4, rate = head[2] >> 2 & 3;
+
+    if (fault == CHART_TAKES_INDEX_15 && index == 15)
+        head[2] ^= 0x10;
+    if (fault == CHART_TESTS_4_BEFORE_5 && (index == 0 || index == 15) && rate == 3)
+        head[2] ^= 0x10;
+}
+
+/* The length in the record of a head, as the fault has it. Byte 1 has ID as 0x08 and layer as 0x06. */
+static void measure_wrongly(const uint8_t *head, uint8_t *record)
+{
+    enum fault fault = FAULT;
+    uint8_t other[4], exchanged[AUDIO_FRAME_RECORD];
+    int padding = head[2] >> 1 & 1;
+
+    memcpy(other, head, sizeof other);
+    if (fault == CHART_HAS_TWO_RATES_EXCHANGED && (head[2] & 0x08) == 0)
+        other[2] ^= 0x04;
+    if (fault == CHART_HAS_TWO_LAYERS_EXCHANGED && (head[1] & 0x04) != 0)
+        other[1] ^= 0x02;
+    __real_audio_frame_head_by_chart(other, sizeof other, exchanged, sizeof exchanged);
+    memcpy(record + 4, exchanged + 4, 4);
+    if (fault == CHART_PADS_LAYER_I_BY_1 && record[0] == 3)
+        record[4] -= 3 * padding;
+    if (fault == CHART_PADS_LAYER_II_BY_4 && record[0] == 4)
+        record[4] += 3 * padding;
+    if (fault == CHART_HAS_ONE_WRONG_LENGTH && (head[1] & 0x0E) == 0x02 && head[2] >> 2 == 0x3A)
+        record[4] ^= 1;
+    if (fault == CHART_IS_WRONG_AT_ONE_HEAD && memcmp(head, "\xFF\xF4\x37\x9B", 4) == 0)
+        record[4] ^= 1;
+}
+
+uint32_t __wrap_audio_frame_head_by_chart(const uint8_t *head, size_t head_len, uint8_t *out,
+                                          size_t out_len)
+{
+    enum fault fault = FAULT;
+    uint8_t own[4] = {0}, record[AUDIO_FRAME_RECORD] = {0};
+
+    if (fault == CHART_READS_PAST_HEAD)
+        head_len++;
+    size_t own_len = head_len < sizeof own ? head_len : sizeof own;
+    memcpy(own, head, own_len);
+    take_wrongly(own);
+    uint32_t status = __real_audio_frame_head_by_chart(own, own_len, record, sizeof record);
+    if (status == 0)
+        measure_wrongly(own, record);
+
+    if (fault == CHART_TESTS_HEAD_BEFORE_12 && status != 0)
+        return status;
+    if (fault == CHART_WRITES_ON_12 && out_len == 23)
+        memcpy(out, record, out_len);
+    if (out_len < sizeof record)
+        return fault == CHART_ANSWERS_1_TO_A_SHORT_OUT ? 1 : 12;
+    if (status == 0 || fault == CHART_WRITES_ON_REFUSAL)
+        memcpy(out, record, sizeof record);
+    if (fault == CHART_CHANGES_BYTE_24 && status == 0 && out_len > 24)
+        out[24] ^= 1;
+    if (fault == CHART_CHANGES_BYTE_BEHIND_OUT)
+        out[out_len] ^= 1;
+    if (fault == CHART_HAS_ONE_CHANNEL && status == 0)
+        out[16] = 1;
     return status;
 }

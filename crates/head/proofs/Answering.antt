@@ -3,7 +3,6 @@ use mathlib.Core.Path.{_≡_, refl, sym, _∙_}
 use mathlib.Core.List.{List, [], _∷_, _++_, append-assoc, append-nil}
 use Prim.Native.Nat.{ℕ}
 use Rattle.heads.specs.Numbers.{kindNumber, bitRateNumber, refusalNumber, headAnswer}
-use Rattle.heads.specs.Syntax.{headOfCode}
 use Rattle.heads.specs.declared.info.AudioFrameInfo.{AudioFrameInfo}
 use Rattle.heads.specs.declared.info.Head.{Head}
 use Rattle.heads.specs.declared.info.Head.the-variants.{Read, Refused}
@@ -52,14 +51,18 @@ told BitRateIndex = refl
 told FrameLength = refl
 told SyntaxCode = refl
 
-pub refused-line : (g : Refusal) (n : ℕ) {o last : Output} {b exit : List ℕ} → n ≡ refusalNumber g
-    → Put (refusedText n ++ (10 ∷ [])) o last b exit
-    → Put (answerLine (headAnswer (Refused g))) o last b exit
-refused-line g n e p = rw (told g, ← e) p
+-- by the case of the head
+module _ (x : Head) {o last : Output} {b exit : List ℕ} where
+  pub read-line : (i : AudioFrameInfo) → x ≡ Read i → Put (answerLine (headAnswer (Read i))) o last b exit
+      → Put (answerLine (headAnswer x)) o last b exit
+  read-line i e p = rw e p
+
+  pub refused-line : (g : Refusal) (n : ℕ) → x ≡ Refused g → n ≡ refusalNumber g
+      → Put (refusedText n ++ (10 ∷ [])) o last b exit → Put (answerLine (headAnswer x)) o last b exit
+  refused-line g n e is p = rw (e, told g, ← is) p
 
 -- the head is that of the bytes
-pub head-line : (code : ℕ) (lent bytes : List ℕ) (x h : Head) {o last : Output} {b exit : List ℕ} → lent ≡ bytes
-    → x ≡ headOfCode code lent → x ≡ h
-    → Put (answerLine (headAnswer h)) o last b exit → Put
-    (answerLine (headAnswer (headOfCode code bytes))) o last b exit
-head-line code lent bytes x h e is case p = rw (← e, ← is, case) p
+pub head-line : (reader : List ℕ → Head) (lent bytes : List ℕ) (x : Head) {o last : Output} {b exit : List ℕ}
+    → lent ≡ bytes → x ≡ reader lent → Put (answerLine (headAnswer x)) o last b exit
+    → Put (answerLine (headAnswer (reader bytes))) o last b exit
+head-line reader lent bytes x e is p = rw (← e, ← is) p

@@ -14,6 +14,7 @@ use text::front;
 ghost use mathlib.Core.List.{_∷_, [], _++_};
 ghost use lib.ListN.{take};
 ghost use Rattle.heads.specs.Numbers.{headAnswer};
+ghost use Rattle.heads.specs.Mpeg.{mpegHead};
 ghost use Rattle.heads.specs.Syntax.{headOfCode};
 ghost use Rattle.numbers.specs.Decimal.{decimal};
 ghost use Rattle.text.specs.Output.{Put};
@@ -24,6 +25,7 @@ pub fn put_answer(out: Output, block: &mut [u8; BLOCK_LEN], line: &[u8]) -> Outp
     let mut numbers = [0u32; FIELDS_MAX];
     match parse_request(line, &mut bytes, &mut numbers) {
         Request::Head { code, count } => put_head(out, block, code, &bytes, count),
+        Request::Chart { count } => put_by_chart(out, block, &bytes, count),
         Request::Skip { code, count } => put_skip(out, block, code, &bytes, count),
         Request::Duration { samples, rate } => put_duration(out, block, samples, rate),
         Request::Write { table, at, room } => put_write(out, block, table, &numbers, room, at),
@@ -54,7 +56,29 @@ fn put_head(
         Put (answerLine (headAnswer (headOfCode code (take count (now (bytes .entry)))))) out r (now (block .entry)) (now (block .exit))
         ⌝ }
 {
-    match heads::parse_head(code, front(bytes, count)) {
+    put_read(out, block, heads::parse_head(code, front(bytes, count)))
+}
+
+// An MPEG audio head, its length from the wall chart.
+fn put_by_chart(
+    out: Output,
+    block: &mut [u8; BLOCK_LEN],
+    bytes: &[u8; BYTES_MAX],
+    count: usize,
+) -> Output
+    ensures { λ r. ⌜
+        Put (answerLine (headAnswer (mpegHead (take count (now (bytes .entry)))))) out r (now (block .entry)) (now (block .exit))
+        ⌝ }
+{
+    let head = heads::parse_mpeg_audio_header_by_chart(front(bytes, count));
+    put_read(out, block, head)
+}
+
+// What was read.
+fn put_read(out: Output, block: &mut [u8; BLOCK_LEN], head: Head) -> Output
+    ensures { λ r. ⌜ Put (answerLine (headAnswer head)) out r (now (block .entry)) (now (block .exit)) ⌝ }
+{
+    match head {
         Head::Read(info) => put_info(out, block, info),
         Head::Refused(refusal) => put_refusal(out, block, refusal.number()),
     }

@@ -1,12 +1,13 @@
 -- The wall chart of lengths: the code's table is the chart, by one test that is computed over all of its entries, and
 -- each entry is the length of its ID, layer, bit rate index and rate index. Assumes nothing.
-use mathlib.Core.Path.{_≡_, refl, ap, _∙_}
-use mathlib.Core.List.{List, [], _∷_}
+use mathlib.Core.Path.{_≡_, refl, sym, ap, _∙_}
+use mathlib.Core.List.{List, [], _∷_, _++_, append-assoc, append-nil}
 use Prim.Native.Nat.{ℕ, zero, suc, _<_, _+_, _-_, _*_}
 use native.Mathlib.Nat.{le-of-suc-le-suc, not-suc-le-zero}
+use native.Mathlib.Numerals.{add-one}
 use native.Mathlib.Omega.{arith}
-use lib.ListN.{length, getD, List·getD-append}
-use lib.Seq.{getD-append-add}
+use lib.ListN.{length, getD, take, List·getD-append}
+use lib.Seq.{getD-append-add, take-suc}
 use borrow.Author.Tests.{eq-eqb, ne-eqb}
 use Rattle.heads.proofs.Below.{agree}
 use Rattle.heads.specs.Mpeg.{Layer, layer1, layer2, layer3, lowLayer3, shaped, mpegShape, layer3Shape}
@@ -24,6 +25,16 @@ in-part d n f e (x ∷ xs) (suc i) j h l =
     let p : suc i * n + j ≡ length (f x) + (i * n + j) = rw (e x) (omega arith) in
     rw p (getD-append-add (f x) (forEach xs f) (i * n + j) d ∙ in-part d n f e xs i j (le-of-suc-le-suc h) l)
 
+for-each-append : {A : Type 0} (f : ℕ → List A) (a b : List ℕ) → forEach (a ++ b) f ≡ forEach a f ++ forEach b f
+for-each-append f [] b = refl
+for-each-append f (x ∷ a) b = rw (for-each-append f a b) (sym (append-assoc (f x) (forEach a f) (forEach b f)))
+
+-- a number more
+pub for-each-next : {A : Type 0} (f : ℕ → List A) (xs : List ℕ) (i x : ℕ) → i < length xs → getD xs i 0 ≡ x
+    → forEach (take (i + 1) xs) f ≡ forEach (take i xs) f ++ f x
+for-each-next f xs i x h e =
+    rw (add-one i, take-suc xs i 0 h, e, for-each-append f (take i xs) (x ∷ []), append-nil (f x))
+
 -- what the chart goes through, by its place there
 id-at : (k : ℕ) → k < 2 → getD ids k 0 ≡ k
 id-at = agree 2 (λ (k : ℕ). getD ids k 0) (λ (k : ℕ). k) tt
@@ -31,7 +42,7 @@ id-at = agree 2 (λ (k : ℕ). getD ids k 0) (λ (k : ℕ). k) tt
 layer-at : (k : ℕ) → k < 3 → getD layers k 0 ≡ 3 - k
 layer-at = agree 3 (λ (k : ℕ). getD layers k 0) (λ (k : ℕ). 3 - k) tt
 
-index-at : (k : ℕ) → k < 14 → getD indices k 0 ≡ k + 1
+pub index-at : (k : ℕ) → k < 14 → getD indices k 0 ≡ k + 1
 index-at = agree 14 (λ (k : ℕ). getD indices k 0) (λ (k : ℕ). k + 1) tt
 
 rate-at : (k : ℕ) → k < 3 → getD rates k 0 ≡ k
@@ -67,6 +78,15 @@ module _ (ID layer index rate : ℕ) where
       ∙ ap (λ (p : ℕ). getD (chartRow ID layer index) p 0) cell
       ∙ in-part 0 1 (λ (x : ℕ). unpadded ID layer index x ∷ []) (λ (x : ℕ). refl) rates rate 0 f (omega arith)
       ∙ ap (unpadded ID layer index) (rate-at rate f)
+
+-- as many rows as there are, and rows of three
+pub rows-count : length chartRows ≡ 84
+unfolding chartRows
+rows-count = refl
+
+pub row-of-three : (k : ℕ) → k < 84 → length (getD chartRows k []) ≡ 3
+unfolding chartRows
+row-of-three = agree 84 (λ (k : ℕ). length (getD chartRows k [])) (λ (k : ℕ). 3) tt
 
 -- a frame's shape by its unpadded length: padding is a slot more, of four bytes or of one
 abbrev shape : ℕ → Layer → MpegShape

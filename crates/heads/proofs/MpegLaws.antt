@@ -122,8 +122,8 @@ module _ (b : List ℕ) (byte : Bytes b) where
 
 -- the fields that are judged fit their widths
 pub in-widths : (f : MpegFields) (b : List ℕ) → f ≡ mpegFields b
-    → ((f .id < 2) × (f .layer < 4) × (f .«bitrate_index» < 16)) × ((f .«sampling_frequency» < 4) × (f .«padding_bit» < 2))
-in-widths f b e = rw e ((omega arith, omega arith, omega arith), (omega arith, omega arith))
+    → (f .id < 2) × (f .layer < 4) × (f .«bitrate_index» < 16) × (f .«sampling_frequency» < 4)
+in-widths f b e = rw e (omega arith, omega arith, omega arith, omega arith)
 
 -- a shape's length, from the count of its slots: of four bytes, or of one
 pub fours : (k : AudioFrameKind) (s m n p : ℕ) → m ≡ n

@@ -203,11 +203,17 @@ mpegRead shape kbps rate channels =
     })
 
 -- what the fields of an accepted head say
+abbrev pub kbpsOf : MpegFields → ℕ
+kbpsOf f = mpegKbps (f .id) (f .layer) (f .«bitrate_index»)
+
+abbrev pub rateOf : MpegFields → ℕ
+rateOf f = mpegRate (f .id) (f .«sampling_frequency»)
+
+abbrev pub shapeOf : MpegFields → MpegShape
+shapeOf f = mpegShape (f .id) (f .layer) (rateOf f) (kbpsOf f * 1000) (f .«padding_bit»)
+
 abbrev pub mpegFacts : MpegFields → Head
-mpegFacts f =
-    let kbps = mpegKbps (f .id) (f .layer) (f .«bitrate_index») in
-    let rate = mpegRate (f .id) (f .«sampling_frequency») in
-    mpegRead (mpegShape (f .id) (f .layer) rate (kbps * 1000) (f .«padding_bit»)) kbps rate (mpegChannels (f .mode))
+mpegFacts f = mpegRead (shapeOf f) (kbpsOf f) (rateOf f) (mpegChannels (f .mode))
 
 -- what the fields say: 2, 3, 5, 4
 unfoldable pub mpegJudged : MpegFields → Head

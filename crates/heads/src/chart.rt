@@ -1,9 +1,9 @@
 // The wall chart of lengths, and a second reader of MPEG audio heads that takes its lengths from it.
 ghost use mathlib.Core.Path.{_≡_};
-ghost use Prim.Native.Nat.{_<_, _*_};
+ghost use Prim.Native.Nat.{_<_};
 ghost use Rattle.heads.specs.Numbers.{headAnswer};
-ghost use Rattle.heads.specs.Mpeg.{mpegFacts, mpegHead, mpegJudged, mpegKbps, mpegRate, mpegShape};
-ghost use Rattle.heads.specs.Chart.{chartRows, unpadded};
+ghost use Rattle.heads.specs.Mpeg.{mpegFacts, mpegHead, mpegJudged, mpegKbps, mpegRate, shapeOf};
+ghost use Rattle.heads.specs.Chart.{Charted, chartRows, unpadded};
 use crate::fields::MpegFields;
 use crate::info::AudioFrameInfo;
 use crate::info::AudioFrameKind;
@@ -151,15 +151,16 @@ pub fn parse_mpeg_audio_header_by_chart(b: &[u8]) -> Head
 
 // What the fields say.
 fn judge_by_chart(f: MpegFields) -> Head
-    requires { ⌜ (f .id < 2) × (f .layer < 4) × (f .«bitrate_index» < 16) ⌝ }
-    requires { ⌜ (f .«sampling_frequency» < 4) × (f .«padding_bit» < 2) ⌝ }
+    requires { ⌜ (f .id < 2) × (f .layer < 4) × (f .«bitrate_index» < 16) × (f .«sampling_frequency» < 4) ⌝ }
     ensures { λ r. ⌜ r ≡ mpegJudged f ⌝ }
 {
     if f.syncword != 0xFFF {
         return Head::Refused(Refusal::NoSyncWord);
     }
-    if f.layer == 0 {
-        return Head::Refused(Refusal::Unsupported);
+    let layer = f.layer;
+    match layer {
+        0 => return Head::Refused(Refusal::Unsupported),
+        _ => {}
     }
     if f.bitrate_index == 0 {
         return Head::Refused(Refusal::BitRateIndex); // free format
@@ -175,19 +176,12 @@ fn judge_by_chart(f: MpegFields) -> Head
 
 // What the fields of an accepted head say.
 fn facts_by_chart(f: MpegFields) -> AudioFrameInfo
-    requires { ⌜ (f .id < 2) × (0 < f .layer) × (f .layer < 4) × (f .«padding_bit» < 2) ⌝ }
-    requires { ⌜ (0 < f .«bitrate_index») × (f .«bitrate_index» < 15) × (f .«sampling_frequency» < 3) ⌝ }
+    requires { ⌜ Charted f ⌝ }
     ensures { λ r. ⌜ Head.Read r ≡ mpegFacts f ⌝ }
 {
     let bitrate = mpeg_kbps(f.id, f.layer, f.bitrate_index as usize) as u32 * 1000;
     let sample_rate = mpeg_sample_rate(f.id, f.sampling_frequency as usize);
-    let shape = chart_shape(
-        f.id,
-        f.layer,
-        f.bitrate_index,
-        f.sampling_frequency,
-        f.padding_bit,
-    );
+    let shape = chart_shape(f);
     let kind = shape.kind;
     AudioFrameInfo {
         kind,
@@ -200,21 +194,13 @@ fn facts_by_chart(f: MpegFields) -> AudioFrameInfo
 }
 
 // What a frame's layer decides. Padding is one slot more: four bytes in Layer I, one in the others.
-fn chart_shape(
-    id: u8,
-    layer: u8,
-    bitrate_index: u8,
-    sampling_frequency: u8,
-    padding_bit: u8,
-) -> MpegShape
-    requires { ⌜ (id < 2) × (0 < layer) × (layer < 4) × («padding_bit» < 2) ⌝ }
-    requires { ⌜ (0 < «bitrate_index») × («bitrate_index» < 15) × («sampling_frequency» < 3) ⌝ }
-    ensures { λ r. ⌜
-        r ≡ mpegShape id layer (mpegRate id «sampling_frequency») (mpegKbps id layer «bitrate_index» * 1000) «padding_bit»
-        ⌝ }
+fn chart_shape(f: MpegFields) -> MpegShape
+    requires { ⌜ Charted f ⌝ }
+    ensures { λ r. ⌜ r ≡ shapeOf f ⌝ }
 {
-    let unpadded = chart_len(id, layer, bitrate_index, sampling_frequency) as usize;
-    let padding = padding_bit as usize;
+    let unpadded = chart_len(f) as usize;
+    let padding = f.padding_bit as usize;
+    let layer = f.layer;
     match layer {
         3 => MpegShape {
             frame_len: unpadded + padding * 4,
@@ -228,21 +214,20 @@ fn chart_shape(
         },
         _ => MpegShape {
             frame_len: unpadded + padding,
-            samples: if id == 1 { 1152 } else { 576 },
+            samples: if f.id == 1 { 1152 } else { 576 },
             kind: AudioFrameKind::MpegLayer3,
         },
     }
 }
 
 // A length by the chart. Layers I, II and III have the codes 3, 2 and 1.
-fn chart_len(id: u8, layer: u8, bitrate_index: u8, sampling_frequency: u8) -> u16
-    requires { ⌜ (id < 2) × (0 < layer) × (layer < 4) ⌝ }
-    requires { ⌜ (0 < «bitrate_index») × («bitrate_index» < 15) × («sampling_frequency» < 3) ⌝ }
-    ensures { λ r. ⌜ r ≡ unpadded id layer «bitrate_index» «sampling_frequency» ⌝ }
+fn chart_len(f: MpegFields) -> u16
+    requires { ⌜ Charted f ⌝ }
+    ensures { λ r. ⌜ r ≡ unpadded (f .id) (f .layer) (f .«bitrate_index») (f .«sampling_frequency») ⌝ }
 {
     let chart = mpeg_chart();
-    let part = id as usize * 3 + (3 - layer) as usize;
-    let row = part * 14 + (bitrate_index - 1) as usize;
-    let rate = sampling_frequency as usize;
+    let part = f.id as usize * 3 + (3 - f.layer) as usize;
+    let row = part * 14 + (f.bitrate_index - 1) as usize;
+    let rate = f.sampling_frequency as usize;
     chart[row][rate]
 }

@@ -3,6 +3,7 @@ use mathlib.Core.Bool.{cond}
 use mathlib.Core.List.{List, [], _∷_, _++_}
 use Prim.Native.Nat.{ℕ, zero, suc, _+_, _-_, _*_, _/_, _%_}
 use lib.Dec.{ltb}
+use lib.ListN.{length, replicate}
 
 -- a decimal digit
 abbrev pub digit : ℕ → ℕ
@@ -16,6 +17,10 @@ digits (suc k) n = let more = digits k (n / 10) ++ (digit (n % 10) ∷ []) in co
 -- a decimal without leading zeros; no number n has more than n + 1 digits
 unfoldable pub decimal : ℕ → List ℕ
 decimal n = digits (suc n) n
+
+-- right-justified: so wide, or as wide as the text where that is wider; 32 is a space
+unfoldable pub right : ℕ → List ℕ → List ℕ
+right width text = replicate (width - length text) 32 ++ text
 
 -- ---- the number that they say
 

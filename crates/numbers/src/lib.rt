@@ -1,6 +1,7 @@
-// Numbers as they stand in a text: how far one is from 0, and how many decimal digits it has. Whoever writes digits
-// says by this crate's `decimal` which.
+// Numbers as they stand in a text: how far one is from 0, how many decimal digits it has, and how many spaces stand
+// before it in a column. Whoever writes digits says by this crate's `decimal` which.
 ghost use mathlib.Core.Path.{_≡_};
+ghost use Prim.Native.Nat.{_-_};
 ghost use lib.IntN.{natAbs};
 ghost use lib.ListN.{length};
 ghost use Rattle.numbers.specs.Decimal.{decimal};
@@ -36,4 +37,11 @@ pub fn places(n: u64) -> usize
         return count + 1;
     }
     count
+}
+
+// How many spaces bring a text of len characters to the width.
+pub fn padding(width: usize, len: usize) -> usize
+    ensures { λ r. ⌜ r ≡ width - len ⌝ }
+{
+    if len < width { width - len } else { 0 }
 }

@@ -2,10 +2,11 @@
 -- space between columns ..'. Text is a list of ASCII codes.
 use mathlib.Core.Bool.{Bool, true, false}
 use mathlib.Core.List.{List, [], _∷_, _++_}
-use Prim.Native.Nat.{ℕ, zero, suc, _-_, _%_, _^_}
+use Prim.Native.Nat.{ℕ, zero, suc, _%_, _^_}
 use lib.IntN.{ℤ, pos, negsuc}
-use lib.ListN.{length, getD, replicate}
+use lib.ListN.{getD}
 use Rattle.numbers.specs.Decimal.{decimal}
+unfoldable pub use Rattle.numbers.specs.Decimal.{right}
 use Rattle.sheet.specs.declared.column.Cell.{Cell}
 use Rattle.sheet.specs.declared.column.Cell.the-variants.{Number, Absent}
 
@@ -38,10 +39,6 @@ signed (negsuc n) = spelled true (suc n)
 abbrev pub cellText : Cell → List ℕ
 cellText (Number z) = signed z
 cellText Absent = minus ∷ []
-
--- right-justified: so wide, or as wide as the text where that is wider
-unfoldable pub right : ℕ → List ℕ → List ℕ
-right width text = replicate (width - length text) space ++ text
 
 abbrev pub columns : List ℕ → List Cell → List (List ℕ)
 columns [] cells = []

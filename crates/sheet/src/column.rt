@@ -2,10 +2,11 @@
 use crate::number::put_digits;
 use crate::number::put_spaces;
 use numbers::magnitude;
+use numbers::padding;
 use numbers::places;
 ghost use mathlib.Core.Path.{_≡_};
 ghost use mathlib.Core.List.{_∷_, [], _++_};
-ghost use Prim.Native.Nat.{_+_, _-_};
+ghost use Prim.Native.Nat.{_+_};
 ghost use lib.ListN.{length};
 ghost use Rattle.sheet.specs.Layout.{right, spelled, cellText, minus};
 ghost use Rattle.sheet.specs.Step.{put, Room};
@@ -15,13 +16,6 @@ pub enum Cell {
     Number(i64),
     // A minus sign alone.
     Absent,
-}
-
-// How many spaces bring a text of len characters to the width.
-fn padding(width: usize, len: usize) -> usize
-    ensures { λ r. ⌜ r ≡ width - len ⌝ }
-{
-    if len < width { width - len } else { 0 }
 }
 
 // A number with its sign, right-justified.

@@ -3,14 +3,14 @@ use mathlib.Core.Path.{_≡_, refl, sym, _∙_, ap}
 use mathlib.Core.List.{List, [], _∷_, _++_}
 use Prim.Native.Nat.{ℕ, zero, suc, _+_, _-_, _/_, _%_, _^_, _≤_, _<_}
 use native.Mathlib.Numerals.{add-one}
-use native.Mathlib.Nat.{not-suc-le-zero}
+use native.Mathlib.Nat.{zero-add, not-suc-le-zero}
 use native.Mathlib.Omega.{arith}
-use lib.ListN.{length, length-append, getD, take, set}
-use lib.Seq.{take-suc, take-length}
+use lib.ListN.{length, length-append, getD, take, drop, set, replicate}
+use lib.Seq.{take-suc, take-length, take-at, sets, sets-eq}
 use borrow.Author.Tests.{lt-ltb, le-ltb}
 use Rattle.io.specs.Digits.{Fewest, digits as ioDigits}
-use Rattle.numbers.specs.Decimal.{digits, decimal}
-use Rattle.text.specs.Output.{blockLength, nextPlace, lenAfter, blockAfter, Put, Written}
+use Rattle.numbers.specs.Decimal.{digits, decimal, right}
+use Rattle.text.specs.Output.{noOutput, blockLength, nextPlace, lenAfter, blockAfter, Put, Written, Holds}
 use Rattle.text.specs.declared.output.Output.{Output}
 
 -- ---- one byte
@@ -77,6 +77,12 @@ put-both {s} {t} {a} {b} {c} {first} p q =
       room = λ e. q .room (roomy e) ∙ p .room (omega (arith, length-append s t));
     }
 
+-- the same between its two parts, for a run of them
+infixl 20 _then_
+pub _then_ : {s t : List ℕ} {a b c : Output} {first second third : List ℕ} → Put s a b first second
+    → Put t b c second third → Put (s ++ t) a c first third
+p then q = put-both p q
+
 -- a byte more of a text
 pub put-next : {a b c : Output} {first second third : List ℕ} (text : List ℕ) (i : ℕ) → i < length text
     → Put (take i text) a b first second → Put (getD text i 0 ∷ []) b c second third
@@ -133,3 +139,32 @@ fewest (suc k) (suc (suc j)) n h f =
 pub decimal-is : (n k : ℕ) → Fewest 10 1 n k → ioDigits 10 k n ≡ decimal n
 unfolding decimal
 decimal-is n k f = fewest (suc n) k n (omega arith) f
+
+-- right-justified, behind its spaces
+pub put-justified : {a b c : Output} {first second third : List ℕ} (width n len count : ℕ) → len ≡ length (decimal n)
+    → count ≡ width - len → Put (replicate count 32) a b first second → Put (decimal n) b c second third
+    → Put (right width (decimal n)) a c first third
+unfolding right
+put-justified width n len count l e p q = rw (← l, ← e) (put-both p q)
+
+-- ---- a whole text
+
+-- while there is room, the block gets the text from the place on
+after-within : (text : List ℕ) (len : ℕ) (block : List ℕ) → len + length text ≤ blockLength
+    → blockAfter text len block ≡ sets block len text
+after-within [] len block h = refl
+after-within (b ∷ text) len block h =
+    rw (place-within len (omega arith), add-one len) (after-within text (suc len) (set block len b) (omega arith))
+
+-- a text for which the block has room, put into it when it was empty
+pub put-whole : {text entry exit : List ℕ} {last : Output} → Put text noOutput last entry exit
+    → length text ≤ blockLength → length entry ≡ blockLength → Holds text last exit
+put-whole {text} {entry} {exit} {last} p h e =
+    let len : last .len ≡ length text = p .len ∙ len-within text 0 (omega arith) ∙ zero-add (length text) in
+    let all : exit ≡ text ++ drop (0 + length text) entry =
+    p .block ∙ after-within text 0 entry (omega arith) ∙ sets-eq text entry 0 (omega arith)
+    in
+    record {
+      front = rw (len, all) (take-at text (drop (0 + length text) entry) (length text) refl);
+      failed = p .room (omega arith);
+    }

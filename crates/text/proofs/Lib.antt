@@ -2,4 +2,5 @@
 pub mod Octets
 pub mod Numbers
 pub mod Blocks
+pub mod Comparing
 pub mod Lines

@@ -4,7 +4,7 @@ use mathlib.Core.Bool.{true, false, cond}
 use mathlib.Core.List.{List, [], _∷_}
 use Prim.Native.Nat.{ℕ, _+_, _≤_}
 use lib.Dec.{ltb}
-use lib.ListN.{length, set}
+use lib.ListN.{length, take, set}
 use Rattle.text.specs.declared.output.Output.{Output}
 
 -- nothing is to be written yet
@@ -39,3 +39,8 @@ pub record Put (text : List ℕ) (before after : Output) (entry exit : List ℕ)
 pub record Written (before after : Output) : Type 0 where
   pub len : after .len ≡ 0
   pub failed : before .failed ≡ true → after .failed ≡ true
+
+-- just this text is to be written, and no write has failed
+pub record Holds (text : List ℕ) (output : Output) (block : List ℕ) : Type 0 where
+  pub front : take (output .len) block ≡ text
+  pub failed : output .failed ≡ false

@@ -23,3 +23,4 @@ pub use output::BLOCK_LEN;
 pub use output::Output;
 pub use output::report;
 pub use part::front;
+pub use part::same;

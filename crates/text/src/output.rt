@@ -5,11 +5,13 @@
 use crate::part::front;
 use libc::STDERR_FILENO;
 use libc::STDOUT_FILENO;
+use numbers::padding;
+use numbers::places;
 ghost use mathlib.Core.Path.{_≡_};
 ghost use mathlib.Core.List.{_∷_, []};
 ghost use Prim.Native.Nat.{_+_, _≤_};
-ghost use lib.ListN.{length};
-ghost use Rattle.numbers.specs.Decimal.{decimal};
+ghost use lib.ListN.{length, replicate};
+ghost use Rattle.numbers.specs.Decimal.{decimal, right};
 ghost use Rattle.text.specs.Output.{blockLength, noOutput, Put, Written};
 
 pub const BLOCK_LEN: usize = 8192;
@@ -95,6 +97,24 @@ impl Output {
         let mut digits = [0u8; 20];
         let count = io::decimal(n, &mut digits);
         self.put_text(block, &digits[..count])
+    }
+
+    // A decimal, right-justified.
+    pub fn put_right(self, block: &mut [u8; BLOCK_LEN], width: usize, n: u64) -> Self
+        ensures { λ r. ⌜ Put (right width (decimal n)) self r (now (block .entry)) (now (block .exit)) ⌝ }
+    {
+        let count = padding(width, places(n));
+        self.put_spaces(block, count).put_decimal(block, n)
+    }
+
+    fn put_spaces(self, block: &mut [u8; BLOCK_LEN], count: usize) -> Self
+        ensures { λ r. ⌜ Put (replicate count 32) self r (now (block .entry)) (now (block .exit)) ⌝ }
+    {
+        let mut out = self;
+        for _ in 0..count {
+            out = out.put_byte(block, b' ');
+        }
+        out
     }
 
     pub fn flushed(self, block: &[u8; BLOCK_LEN]) -> Self

@@ -1,4 +1,4 @@
-//! Safe calls of the library under test, through its C exports (include/audio_frame.h).
+//! Safe calls of the libraries under test, through their C exports (include/).
 
 use crate::writes::Table;
 
@@ -27,6 +27,12 @@ extern "C" {
         out: *mut u8,
         out_len: usize,
     ) -> u32;
+    fn audio_frame_head_by_chart(
+        head: *const u8,
+        head_len: usize,
+        out: *mut u8,
+        out_len: usize,
+    ) -> u32;
     fn audio_frame_duration_90k(samples: u32, rate: u32) -> u32;
     fn audio_frame_write_ac3(f: *const u32, n: usize, tape: *mut u8, len: usize, at: usize) -> u32;
     fn audio_frame_write_eac3(f: *const u32, n: usize, tape: *mut u8, len: usize, at: usize)
@@ -43,16 +49,36 @@ pub fn read_into(code: u32, head: &[u8], out: &mut [u8]) -> u32 {
     unsafe { audio_frame_head(code, head.as_ptr(), head.len(), out.as_mut_ptr(), out.len()) }
 }
 
+/// Reads an MPEG audio head by the chart, as [`read_into`] does with code 1.
+pub fn read_by_chart_into(head: &[u8], out: &mut [u8]) -> u32 {
+    // SAFETY: as in `read_into`.
+    unsafe { audio_frame_head_by_chart(head.as_ptr(), head.len(), out.as_mut_ptr(), out.len()) }
+}
+
 /// Reads a head into `out_len` lent bytes and checks that every byte that had to stay did stay:
 /// those before and behind `out`, those from 24 on, and on a refusal all of them.
 pub fn read_guarded(code: u32, head: &[u8], out_len: usize) -> Result<Answer, Touched> {
+    // SAFETY: `out` has `out_len` bytes, which `head`, a slice, does not overlap.
+    guarded(out_len, |out| unsafe {
+        audio_frame_head(code, head.as_ptr(), head.len(), out, out_len)
+    })
+}
+
+/// Reads an MPEG audio head by the chart, with the checks of [`read_guarded`].
+pub fn read_by_chart_guarded(head: &[u8], out_len: usize) -> Result<Answer, Touched> {
+    // SAFETY: as in `read_guarded`.
+    guarded(out_len, |out| unsafe {
+        audio_frame_head_by_chart(head.as_ptr(), head.len(), out, out_len)
+    })
+}
+
+/// Lends `out_len` bytes to a reader. Returns its answer, or a byte that it had to leave.
+fn guarded(out_len: usize, read: impl FnOnce(*mut u8) -> u32) -> Result<Answer, Touched> {
     assert!(out_len <= LONGEST_OUT);
     let mut memory = PATTERN;
     // The pointer is made from the whole of `memory`, so that a write into a guard is found below
     // instead of being undefined.
-    let out = memory.as_mut_ptr().wrapping_add(GUARD);
-    // SAFETY: `out` has `out_len` bytes of `memory`, which `head`, a slice, does not overlap.
-    let status = unsafe { audio_frame_head(code, head.as_ptr(), head.len(), out, out_len) };
+    let status = read(memory.as_mut_ptr().wrapping_add(GUARD));
     let answer = match status {
         0 => Ok(record(&memory[GUARD..])),
         number => Err(number),
@@ -103,7 +129,7 @@ pub fn write_guarded(
 ) -> Result<(u32, Tape), Touched> {
     assert!(room <= LONGEST_TAPE);
     let mut memory = PATTERN;
-    // The pointer is made from the whole of `memory`, as in `read_guarded`.
+    // The pointer is made from the whole of `memory`, as in `guarded`.
     let tape = memory.as_mut_ptr().wrapping_add(GUARD);
     // SAFETY: `tape` has `room` bytes of `memory`, which `fields`, a slice, does not overlap.
     let status = unsafe { writer(table)(fields.as_ptr(), fields.len(), tape, room, at) };

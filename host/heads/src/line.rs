@@ -13,6 +13,8 @@ const BLANK: u8 = 0xA5;
 pub enum Line {
     /// What the head says: a syntax code and the head's bytes.
     Head(u32, Vec<u8>),
+    /// What an MPEG audio head says by the chart: the head's bytes.
+    Chart(Vec<u8>),
     /// Where a head can begin: a syntax code and the bytes to search.
     Skip(u32, Vec<u8>),
     /// The ticks of so many samples at that rate.
@@ -27,8 +29,9 @@ impl Line {
     /// The line as it is asked, without its line feed.
     pub fn text(&self) -> Vec<u8> {
         match self {
-            Line::Head(code, bytes) => coded("", *code, bytes),
-            Line::Skip(code, bytes) => coded("s ", *code, bytes),
+            Line::Head(code, bytes) => with_bytes(code.to_string(), bytes),
+            Line::Chart(bytes) => with_bytes("m".into(), bytes),
+            Line::Skip(code, bytes) => with_bytes(format!("s {code}"), bytes),
             Line::Duration(samples, rate) => format!("d {samples} {rate}").into(),
             Line::Write(table, fields, at, room) => {
                 let numbers = fields[..table.fields()].iter().map(|field| format!(" {field}"));
@@ -42,10 +45,8 @@ impl Line {
     /// contradict each other.
     pub fn answer(&self) -> Result<String, String> {
         match self {
-            Line::Head(code, head) => Ok(match reference::answer(*code, head)? {
-                Ok(six) => six.map(|number| number.to_string()).join(" "),
-                Err(number) => refused(number),
-            }),
+            Line::Head(code, head) => says(*code, head),
+            Line::Chart(head) => says(1, head),
             Line::Skip(code, bytes) => {
                 Ok(reference::place(*code, bytes)?.map_or_else(refused, |place| place.to_string()))
             }
@@ -60,13 +61,21 @@ impl Line {
     }
 }
 
+/// What a head says.
+fn says(code: u32, head: &[u8]) -> Result<String, String> {
+    Ok(match reference::answer(code, head)? {
+        Ok(six) => six.map(|number| number.to_string()).join(" "),
+        Err(number) => refused(number),
+    })
+}
+
 fn refused(number: u32) -> String {
     format!("refused {number}")
 }
 
-/// A syntax code and bytes, a space before each byte, behind `letter`.
-fn coded(letter: &str, code: u32, bytes: &[u8]) -> Vec<u8> {
-    let mut text = format!("{letter}{code}").into_bytes();
+/// The start of a line and bytes, a space before each.
+fn with_bytes(start: String, bytes: &[u8]) -> Vec<u8> {
+    let mut text = start.into_bytes();
     for &byte in bytes {
         text.push(b' ');
         text.extend(digits(byte));

@@ -1,6 +1,6 @@
 //! Nanoseconds a head: the library through its C export beside the Rust module, in one process,
-//! with one driver and the same buffers. Heads are written beside a plain writer over that module,
-//! which has none of its own.
+//! with one driver and the same buffers. The chart reader stands beside the present one. Heads
+//! are written beside a plain writer over that module, which has none of its own.
 
 use common::random::Random;
 use common::samples::{self, Bytes};
@@ -38,6 +38,24 @@ fn main() {
         let sample = [(); HEADS].map(|()| records::good(table, &mut random));
         written_row(table, &sample);
     }
+    println!("\nratio: the chart reader divided by the present one");
+    println!("ns an MPEG head          chart           present   Rust, same work   ratio");
+    for kind in 3..=5 {
+        let sample = [(); HEADS].map(|()| samples::good(kind, &mut random));
+        chart_row(KIND_NAMES[kind as usize - 1], &sample);
+    }
+}
+
+/// Measures and prints the line of a layer's readers, by turns.
+fn chart_row(name: &str, sample: &[Bytes; HEADS]) {
+    let [mut chart, mut present, mut rust] = [f64::INFINITY; 3];
+    for _ in 0..ROUNDS {
+        chart = chart.min(round(sample, |head, out| library::read_by_chart_into(head, out)));
+        present = present.min(round(sample, |head, out| library::read_into(1, head, out)));
+        rust = rust.min(round(sample, |head, out| rust_into(1, head, out)));
+    }
+    let ratio = chart / present;
+    println!("{name:<22}{chart:>8.2}{present:>18.2}{rust:>18.2}{ratio:>8.2}");
 }
 
 /// Measures and prints the line of a table's writer.

@@ -3,16 +3,16 @@
 //!
 //!   list INPUTS ANSWERS
 //!
-//! An input is `CODE HEX..`, `s CODE HEX..`, `d SAMPLES RATE` or `w TABLE AT ROOM FIELD..`. Its answer
-//! is the six numbers of the head, the place, the duration, the tape, or `refused NUMBER`.
+//! An input is `CODE HEX..`, `m HEX..`, `s CODE HEX..`, `d SAMPLES RATE` or `w TABLE AT ROOM FIELD..`. Its
+//! answer is the six numbers of the head, the place, the duration, the tape, or `refused NUMBER`.
 
 use common::random::Random;
 use common::samples::{self, Ac3, Adts, Bytes, Eac3, Mpeg, KINDS};
-use heads::cases;
-use heads::line::Line::{self, Duration, Head, Skip};
+use heads::line::Line::{self, Chart, Duration, Head, Skip};
 use heads::line::MOST_BYTES;
 use heads::records::{by_chance, good};
 use heads::writes::{Fields, Table, MOST_FIELDS, TABLES};
+use heads::{cases, chart};
 use std::process::ExitCode;
 
 fn main() -> ExitCode {
@@ -69,6 +69,8 @@ fn all_lines() -> Vec<Line> {
     lines.extend(fields_at_their_bounds());
     lines.extend(written_by_chance());
     lines.extend(tapes());
+    lines.extend(chart_heads());
+    lines.extend(refused_by_the_chart());
     lines
 }
 
@@ -358,4 +360,30 @@ fn tapes() -> Vec<Line> {
         );
     }
     lines
+}
+
+/// Each length of the chart, without and with padding. The modes come by turns.
+fn chart_heads() -> Vec<Line> {
+    let mut lines = Vec::new();
+    for (n, fields) in (0..).zip(chart::heads()) {
+        for padding in [0, 1] {
+            let fields = Mpeg { padding, mode: (n + padding) % 4, ..fields };
+            lines.push(Chart(fields.head(rest(n / 3))[..4].to_vec()));
+        }
+    }
+    lines
+}
+
+/// Heads for each number that refuses one, in their order: 1, 2, 3, 5, 4. Some of them a later number
+/// would refuse too.
+#[rustfmt::skip]
+fn refused_by_the_chart() -> Vec<Line> {
+    let heads: [&[u8]; 12] = [
+        &[0xFF, 0xFB, 0x90], &[], &[0xFF, 0xE9, 0xFC],
+        &[0xFF, 0xEB, 0x90, 0xC0], &[0x0B, 0x77, 0x0C, 0x00],
+        &[0xFF, 0xF9, 0x90, 0xC0], &[0xFF, 0xF1, 0xFC, 0xC0],
+        &[0xFF, 0xFB, 0x00, 0xC0], &[0xFF, 0xF5, 0xF8, 0x00], &[0xFF, 0xFF, 0x0C, 0xC0],
+        &[0xFF, 0xFB, 0x9C, 0xC0], &[0xFF, 0xF7, 0xEE, 0xC0],
+    ];
+    heads.map(|head| Chart(head.to_vec())).into()
 }

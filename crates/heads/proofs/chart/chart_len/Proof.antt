@@ -7,14 +7,17 @@ use Rattle.heads.proofs.chart.chart_len.Tie as tie
 mpeg-chart-requires : tie.Need-mpeg-chart-requires
 mpeg-chart-requires c κs = search needs
 
+cast-part : tie.Need-cast-part
+cast-part c = search needs
+
 mul-part : tie.Need-mul-part
 mul-part c = search needs
 
 sub-part : tie.Need-sub-part
 sub-part c = search needs
 
-cast-part : tie.Need-cast-part
-cast-part c = search needs
+cast-part-2 : tie.Need-cast-part-2
+cast-part-2 c = search needs
 
 add-part : tie.Need-add-part
 add-part c = search needs
@@ -31,6 +34,9 @@ cast-row c = search needs
 add-row : tie.Need-add-row
 add-row c = search needs
 
+cast-rate : tie.Need-cast-rate
+cast-rate c = search needs
+
 mul-result : tie.Need-mul-result
 mul-result c = search needs
 
@@ -44,21 +50,23 @@ index-2-result : tie.Need-index-2-result
 index-2-result c = search needs
 
 returns : tie.Need-returns
-returns c = rw (c .before .mpeg-chart .ensures) (search (entry, needs))
+returns c = rw (c .before .before .before .before .before .mpeg-chart .ensures) (search (entry, needs))
 
 pub chart-len-spec : {M : Type 1} → statement M
 chart-len-spec =
     tie.close
     (tie.spec
     mpeg-chart-requires
+    cast-part
     mul-part
     sub-part
-    cast-part
+    cast-part-2
     add-part
     mul-row
     sub-row
     cast-row
     add-row
+    cast-rate
     mul-result
     mul-result-2
     index-1-result

@@ -13,17 +13,17 @@ cast-unpadded c = search needs
 cast-padding : tie.Need-cast-padding
 cast-padding c = search needs
 
-mul-t18 : tie.Need-mul-t18
-mul-t18 c = search needs
+mul-t12 : tie.Need-mul-t12
+mul-t12 c = search needs
 
-add-t19 : tie.Need-add-t19
-add-t19 c = search needs
+add-t13 : tie.Need-add-t13
+add-t13 c = search needs
 
-add-t23 : tie.Need-add-t23
-add-t23 c = search needs
+add-t17 : tie.Need-add-t17
+add-t17 c = search needs
 
-add-t27 : tie.Need-add-t27
-add-t27 c = search needs
+add-t21 : tie.Need-add-t21
+add-t21 c = search needs
 
 returns : tie.Need-returns
 returns c = search by-layer
@@ -44,10 +44,10 @@ chart-shape-spec =
     chart-len-requires
     cast-unpadded
     cast-padding
-    mul-t18
-    add-t19
-    add-t23
-    add-t27
+    mul-t12
+    add-t13
+    add-t17
+    add-t21
     returns
     returns-2
     returns-3

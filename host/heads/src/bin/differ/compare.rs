@@ -1,5 +1,6 @@
-//! One head or duration asked of the library, the oracle and the second definition of the numbers.
+//! One head or duration asked of the libraries, the oracle and the second definition of the numbers.
 
+use crate::reads::{write_counts, Reads};
 use crate::tapes::Writes;
 use heads::library::{self, Answer, Touched};
 use heads::writes::TABLES;
@@ -17,22 +18,20 @@ pub type Outcome = Result<(), Difference>;
 /// The first call whose answer is not the expected one, in words.
 pub struct Difference(pub String);
 
-/// Counts of compared calls; a head read at several lent lengths counts once for each.
+/// Counts of compared calls.
 #[derive(Default)]
 pub struct Tally {
-    heads: u64,
+    reads: Reads,
+    /// Of the chart reader, which every MPEG audio head is asked of, and every one that was written.
+    pub by_chart: Reads,
     durations: u64,
-    /// By kind; place 0 stays empty.
-    read: [u64; 7],
-    /// By number; place 0 stays empty.
-    refused: [u64; 13],
     pub writes: Writes,
 }
 
 impl Tally {
     /// Compares a head at the next lent length.
     pub fn head(&mut self, code: u32, head: &[u8]) -> Outcome {
-        let turn = self.heads % OUT_LENGTHS.len() as u64;
+        let turn = self.reads.heads % OUT_LENGTHS.len() as u64;
         self.head_into(code, head, OUT_LENGTHS[turn as usize])
     }
 
@@ -41,28 +40,33 @@ impl Tally {
         self.agreed(code, head, out_len).map(|_| ())
     }
 
-    /// Compares a head at that lent length and returns the answer that all sides give. The fields of one
-    /// that reads are written again.
+    /// Compares a head at that lent length and returns the answer that all sides give. An MPEG audio head
+    /// is read by the chart too, and the fields of one that reads are written again.
     pub fn agreed(&mut self, code: u32, head: &[u8], out_len: usize) -> Result<Answer, Difference> {
         let library = library::read_guarded(code, head, out_len);
         match expected(code, head, out_len) {
             Ok(answer) if library == Ok(answer) => {
-                self.count(answer);
+                self.reads.count(answer);
+                if code == 1 {
+                    self.chart(head, out_len, answer)?;
+                }
                 if let Ok(six) = answer {
                     self.rewrite(head, six[0])?;
                 }
                 Ok(answer)
             }
-            expected => Err(wrong_answer(code, head, out_len, library, expected)),
+            expected => Err(wrong_answer("the library", code, head, out_len, library, expected)),
         }
     }
 
-    fn count(&mut self, answer: Answer) {
-        self.heads += 1;
-        match answer {
-            Ok(six) => self.read[six[0] as usize] += 1,
-            Err(number) => self.refused[number as usize] += 1,
+    /// Compares the chart reader at that lent length with the answer that all other sides give.
+    pub fn chart(&mut self, head: &[u8], out_len: usize, answer: Answer) -> Outcome {
+        let chart = library::read_by_chart_guarded(head, out_len);
+        if chart != Ok(answer) {
+            return Err(wrong_answer("the chart reader", 1, head, out_len, chart, Ok(answer)));
         }
+        self.by_chart.count(answer);
+        Ok(())
     }
 
     /// Compares a duration.
@@ -78,27 +82,29 @@ impl Tally {
     }
 
     pub fn add(&mut self, other: &Tally) {
-        self.heads += other.heads;
+        self.reads.add(&other.reads);
+        self.by_chart.add(&other.by_chart);
         self.durations += other.durations;
-        self.read.iter_mut().zip(other.read).for_each(|(sum, n)| *sum += n);
-        self.refused.iter_mut().zip(other.refused).for_each(|(sum, n)| *sum += n);
         self.writes.add(&other.writes);
     }
 
-    /// The kinds 1 to 6 and the numbers 1 to 7 and 12 that no head has shown.
+    /// The kinds 1 to 6 and the numbers 1 to 7 and 12 that no head has shown; of the chart reader those
+    /// that MPEG audio has.
     pub fn unseen(&self) -> Vec<String> {
-        let kinds = (1..=6).filter(|&k| self.read[k] == 0).map(|k| format!("kind {k}"));
-        let numbers = (1..=7).chain([12]).filter(|&n| self.refused[n] == 0);
-        kinds.chain(numbers.map(|n| format!("number {n}"))).collect()
+        let unseen = self.reads.unseen(&[1, 2, 3, 4, 5, 6], &[1, 2, 3, 4, 5, 6, 7, 12]);
+        let by_chart = self.by_chart.unseen(&[3, 4, 5], &[1, 2, 3, 4, 5, 12]);
+        unseen
+            .into_iter()
+            .chain(by_chart.iter().map(|what| format!("{what} by the chart")))
+            .collect()
     }
 }
 
 impl fmt::Display for Tally {
     fn fmt(&self, f: &mut fmt::Formatter) -> fmt::Result {
-        write!(f, "{} heads", self.heads)?;
-        write_counts(f, "; read by kind", &self.read)?;
-        write_counts(f, "; refused by number", &self.refused)?;
+        write!(f, "{}", self.reads)?;
         let more = [
+            (self.by_chart.heads, "by the chart"),
             (self.durations, "durations"),
             (self.writes.rewritten, "rewritten"),
             (self.writes.total(), "writes"),
@@ -113,16 +119,6 @@ impl fmt::Display for Tally {
     }
 }
 
-/// Writes the places that are not 0, after `title`; nothing where all are 0.
-fn write_counts(f: &mut fmt::Formatter, title: &str, counts: &[u64]) -> fmt::Result {
-    let mut before = title;
-    for (place, count) in counts.iter().enumerate().filter(|(_, count)| **count > 0) {
-        write!(f, "{before} {place}: {count}")?;
-        before = ",";
-    }
-    Ok(())
-}
-
 /// What the call must answer. An error says that the two references contradict each other.
 fn expected(code: u32, head: &[u8], out_len: usize) -> Result<Answer, String> {
     match numbers::of_call(code, out_len) {
@@ -132,13 +128,14 @@ fn expected(code: u32, head: &[u8], out_len: usize) -> Result<Answer, String> {
 }
 
 fn wrong_answer(
+    reader: &str,
     code: u32,
     head: &[u8],
     out_len: usize,
-    library: Result<Answer, Touched>,
+    found: Result<Answer, Touched>,
     expected: Result<Answer, String>,
 ) -> Difference {
-    let library = match library {
+    let found = match found {
         Ok(answer) => words(answer),
         Err(Touched(place)) => format!("changes byte {place} of out"),
     };
@@ -146,7 +143,7 @@ fn wrong_answer(
         Ok(answer) => format!("expected that it {}", words(answer)),
         Err(contradiction) => contradiction,
     };
-    difference(code, head, &format!("{out_len} bytes lent: the library {library}; {expected}"))
+    difference(code, head, &format!("{out_len} bytes lent: {reader} {found}; {expected}"))
 }
 
 /// A difference at that head.

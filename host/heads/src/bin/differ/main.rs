@@ -1,8 +1,9 @@
-//! The differential runner: the library under test beside the Rust module, the number table and the
+//! The differential runner: the libraries under test beside the Rust module, the number table and the
 //! second definition of writing. It stops with status 1 at the first difference, or where a kind or a
 //! number was never seen.
 
 mod compare;
+mod reads;
 mod runs;
 mod tapes;
 
@@ -70,6 +71,7 @@ fn all_runs(options: &Options) -> Outcome {
         total.add(&tally);
     }
     println!("total: {total}");
+    println!("by the chart: {}", total.by_chart);
     match total.unseen() {
         unseen if unseen.is_empty() => Ok(()),
         unseen => Err(Difference(format!("never seen: {}", unseen.join(", ")))),

@@ -5,7 +5,7 @@ use crate::compare::{difference, Difference, Outcome, Tally};
 use crate::Options;
 use common::random::Random;
 use heads::cases;
-use heads::library::{self, blank, Tape, Touched, LONGEST_TAPE};
+use heads::library::{self, blank, Tape, Touched, LONGEST_TAPE, RECORD};
 use heads::records::{about, by_chance, good};
 use heads::writes::{Fields, Table, MOST_FIELDS, TABLES};
 use oracle::answers;
@@ -82,24 +82,27 @@ impl Tally {
             return Err(wrong(table, fields, room, at, &what));
         }
         if number == 0 {
-            let head = &tape[at as usize..room];
-            let read = answers::read(table.code(), head);
-            if read.is_none() || library::read_guarded(table.code(), head, 24) != Ok(read.ok_or(0))
-            {
-                return Err(wrong(table, fields, room, at, "what was written does not read"));
-            }
-            if table.read(head) != *fields {
-                return Err(wrong(
-                    table,
-                    fields,
-                    room,
-                    at,
-                    "other fields are read than were written",
-                ));
-            }
+            self.read_back(table, fields, &tape[at as usize..room])?;
         }
         self.writes.answers[table as usize][number as usize] += 1;
         Ok(number)
+    }
+
+    /// What was written reads, in MPEG audio by the chart too, and has these fields.
+    fn read_back(&mut self, table: Table, fields: &Fields, head: &[u8]) -> Outcome {
+        let code = table.code();
+        let read = answers::read(code, head);
+        if read.is_none() || library::read_guarded(code, head, RECORD) != Ok(read.ok_or(0)) {
+            return Err(difference(code, head, "what was written does not read"));
+        }
+        if table == Table::Mpeg {
+            self.chart(head, RECORD, read.ok_or(0))?;
+        }
+        if table.read(head) != *fields {
+            let what = format!("other fields are read than were written, {fields:?}");
+            return Err(difference(code, head, &what));
+        }
+        Ok(())
     }
 }
 

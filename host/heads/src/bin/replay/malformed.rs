@@ -9,11 +9,11 @@ use heads::writes::TABLES;
 type Way = fn(&mut Random) -> Vec<u8>;
 
 /// The ways by name.
-pub const WAYS: [(&str, Way); 20] = [
+pub const WAYS: [(&str, Way); 24] = [
     ("empty", |_| Vec::new()),
     ("any bytes", any_bytes),
     ("other letter", |random| [&[random.pick(b"DSWabefrtxz")], &b" 2 77"[..]].concat()),
-    ("letters alone", |random| random.pick(&["d", "s", "w", "d ", "s ", "w ", "ds", "s s"]).into()),
+    ("letters alone", letters_alone),
     ("no space after the letter", no_space_after_the_letter),
     ("space before", |random| [b" ", &well_formed(random)[..]].concat()),
     ("space behind", |random| [&well_formed(random)[..], b" "].concat()),
@@ -37,6 +37,10 @@ pub const WAYS: [(&str, Way); 20] = [
         let more = random.pick(&["18446744073709551616", "99999999999999999999", "-1", "", "1F"]);
         with_word(2, more, random)
     }),
+    ("two spaces", two_spaces),
+    ("code behind the letter m", |random| [b"m ", &by_code(random)[..]].concat()),
+    ("no space behind a byte", no_space_behind_a_byte),
+    ("capital M", |random| [b"M", &by_chart(random)[1..]].concat()),
 ];
 
 /// A malformed line; each way comes as often as the others.
@@ -45,12 +49,32 @@ pub fn line(random: &mut Random) -> Line {
     Line::Malformed(name, way(random))
 }
 
-/// A head or a skip with so many bytes.
+/// So many bytes by chance.
+fn bytes(count: usize, random: &mut Random) -> Vec<u8> {
+    (0..count).map(|_| random.word() as u8).collect()
+}
+
+/// A head, by its code or by the chart, or a skip, with so many bytes.
 fn coded(count: usize, random: &mut Random) -> Vec<u8> {
     let code = random.below(4) as u32;
-    let bytes = (0..count).map(|_| random.word() as u8).collect();
-    let line = if random.below(2) == 0 { Line::Head(code, bytes) } else { Line::Skip(code, bytes) };
+    let bytes = bytes(count, random);
+    let line = match random.below(3) {
+        0 => Line::Head(code, bytes),
+        1 => Line::Skip(code, bytes),
+        _ => Line::Chart(bytes),
+    };
     line.text()
+}
+
+/// A head by its code, which has one digit.
+fn by_code(random: &mut Random) -> Vec<u8> {
+    let code = random.below(4) as u32;
+    Line::Head(code, bytes(random.below(9) as usize, random)).text()
+}
+
+/// A head by the chart, with at least two bytes.
+fn by_chart(random: &mut Random) -> Vec<u8> {
+    Line::Chart(bytes(2 + random.below(39) as usize, random)).text()
 }
 
 /// A head to be written.
@@ -83,6 +107,12 @@ fn a_field_less_or_more(random: &mut Random) -> Vec<u8> {
     }
 }
 
+/// Letters without what has to stand behind them. The letter m alone is a head without bytes.
+fn letters_alone(random: &mut Random) -> Vec<u8> {
+    let letters = ["d", "s", "w", "d ", "s ", "w ", "m ", "ds", "s s", "mm", "m m", "sm"];
+    random.pick(&letters).into()
+}
+
 /// A duration, a head to be written, or a head or a skip with at least one byte.
 fn well_formed(random: &mut Random) -> Vec<u8> {
     match random.below(5) {
@@ -94,7 +124,7 @@ fn well_formed(random: &mut Random) -> Vec<u8> {
 
 /// Bytes of which the first begins no line.
 fn any_bytes(random: &mut Random) -> Vec<u8> {
-    let mut text = vec![random.pick(b" !/:?@ADFSZ`aceftz\0\r\x7F\x80\xFF")];
+    let mut text = vec![random.pick(b" !/:?@ADFMSZ`aceflntz\0\r\x7F\x80\xFF")];
     let more = (0..random.below(700)).map(|_| random.word() as u8);
     text.extend(more.filter(|&byte| byte != b'\n'));
     text
@@ -102,10 +132,11 @@ fn any_bytes(random: &mut Random) -> Vec<u8> {
 
 fn no_space_after_the_letter(random: &mut Random) -> Vec<u8> {
     let number = random.word() as u32;
-    let lines = [Line::Skip(number, vec![0x0B, 0x77]), Line::Duration(number, 48_000)];
-    let mut text = match random.below(3) {
-        2 => written(random),
-        line => lines[line as usize].text(),
+    let mut text = match random.below(4) {
+        0 => Line::Skip(number, vec![0x0B, 0x77]).text(),
+        1 => Line::Duration(number, 48_000).text(),
+        2 => by_chart(random),
+        _ => written(random),
     };
     text.remove(1);
     text
@@ -153,6 +184,21 @@ fn with_one_changed(offset: usize, others: &[u8], random: &mut Random) -> Vec<u8
 fn half_a_byte(random: &mut Random) -> Vec<u8> {
     let (mut text, byte) = with_a_byte(random);
     text.remove(byte + 1);
+    text
+}
+
+/// A head or a skip with another space before one of its bytes.
+fn two_spaces(random: &mut Random) -> Vec<u8> {
+    let (mut text, byte) = with_a_byte(random);
+    text.insert(byte, b' ');
+    text
+}
+
+/// A head by the chart with no space between two of its bytes. Behind a code it could be another code.
+fn no_space_behind_a_byte(random: &mut Random) -> Vec<u8> {
+    let mut text = by_chart(random);
+    let bytes = text.len() as u64 / 3;
+    text.remove(1 + 3 * (1 + random.below(bytes - 1) as usize));
     text
 }
 

@@ -1,5 +1,5 @@
-//! The lines that the replay asks: heads, skips, durations, heads to be written and malformed lines,
-//! by chance.
+//! The lines that the replay asks: heads, by the chart too, skips, durations, heads to be written and
+//! malformed lines, by chance.
 
 use crate::malformed;
 use common::random::Random;
@@ -39,12 +39,13 @@ impl Iterator for Questions {
     fn next(&mut self) -> Option<Question> {
         self.left = self.left.checked_sub(1)?;
         let random = &mut self.random;
-        let line = match random.below(24) {
+        let line = match random.below(28) {
             _ if self.left == 0 => head(random),
             0..=7 => head(random),
             8..=11 => skip(random),
             12..=13 => duration(random),
             14..=21 => write(random),
+            22..=25 => Line::Chart(part_of_frame(random.pick(&[3, 4, 5]), random)),
             _ => malformed::line(random),
         };
         let mut text = line.text();
@@ -55,9 +56,14 @@ impl Iterator for Questions {
     }
 }
 
-/// The start of a frame, cut short or with more bytes behind it.
 fn head(random: &mut Random) -> Line {
     let kind = random.pick(&KINDS);
+    let bytes = part_of_frame(kind, random);
+    Line::Head(code_or_other(samples::code_of(kind), random), bytes)
+}
+
+/// The start of a frame, cut short or with more bytes behind it.
+fn part_of_frame(kind: u32, random: &mut Random) -> Vec<u8> {
     let mut bytes = start_of_frame(kind, random).to_vec();
     let len = match random.below(4) {
         0 => random.below(17) as usize,
@@ -68,7 +74,7 @@ fn head(random: &mut Random) -> Line {
         bytes.extend(random.bytes());
     }
     bytes.truncate(len);
-    Line::Head(code_or_other(samples::code_of(kind), random), bytes)
+    bytes
 }
 
 /// A head that reads, a damaged one, or random bytes.
@@ -135,12 +141,12 @@ fn code_or_other(code: u32, random: &mut Random) -> u32 {
 }
 
 /// Another spelling of the same line, by chance: small letters, or zeros in front of its first number
-/// of 32 bits, which may have ten digits.
+/// of 32 bits, which may have ten digits. A line by the chart has no number.
 fn respell(text: &mut Vec<u8>, random: &mut Random) {
     if random.below(4) == 0 {
         text.make_ascii_lowercase();
     }
-    if random.below(16) == 0 {
+    if text[0] != b'm' && random.below(16) == 0 {
         // Behind the letter w, a table's word and a place come first.
         let words = if text[0] == b'w' { 3 } else { 0 };
         let first =

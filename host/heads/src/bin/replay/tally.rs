@@ -5,9 +5,11 @@ use common::counts::{group, Counts};
 use heads::line::Line;
 
 /// The kinds of lines but for the malformed ones: groups, and what is told apart in each.
-const GROUPS: [(&str, &[&str]); 11] = [
+const GROUPS: [(&str, &[&str]); 13] = [
     ("heads read, kind", &["1", "2", "3", "4", "5", "6"]),
     ("heads refused, number", &["1", "2", "3", "4", "5", "6", "7"]),
+    ("heads read by the chart, kind", &["3", "4", "5"]),
+    ("heads refused by the chart, number", &["1", "2", "3", "4", "5"]),
     ("skips to a sync word, code", &["0", "1", "2"]),
     ("skips to the last byte, code", &["0", "1", "2"]),
     ("skips refused, number", &["7"]),
@@ -48,6 +50,8 @@ fn kind(line: &Line, answer: &str) -> (&'static str, String) {
     match (line, answer.strip_prefix("refused ")) {
         (Line::Head(..), None) => ("heads read, kind", answer[..1].into()),
         (Line::Head(..), Some(number)) => ("heads refused, number", number.into()),
+        (Line::Chart(..), None) => ("heads read by the chart, kind", answer[..1].into()),
+        (Line::Chart(..), Some(number)) => ("heads refused by the chart, number", number.into()),
         (Line::Skip(..), Some(number)) => ("skips refused, number", number.into()),
         (Line::Skip(code, bytes), None) if answer == last_place(bytes) => {
             ("skips to the last byte, code", code.to_string())
