@@ -1,8 +1,8 @@
--- The wall chart of lengths: the code's table is the chart, by one test that is computed over all of its entries, and
--- each entry is the length of its ID, layer, bit rate index and rate index. Assumes nothing.
+-- The wall chart of lengths: each entry is the length of its ID, layer, bit rate index and rate index. (That the code's
+-- table is this chart is one test, computed over all entries: chart/mpeg_chart/Proof.antt.) Assumes nothing.
 use mathlib.Core.Path.{_≡_, refl, sym, ap, _∙_}
 use mathlib.Core.List.{List, [], _∷_, _++_, append-assoc, append-nil}
-use Prim.Native.Nat.{ℕ, zero, suc, _<_, _+_, _-_, _*_}
+use Prim.Native.Nat.{ℕ, zero, suc, _<_, _+_, _-_, _*_, _/_}
 use native.Mathlib.Nat.{le-of-suc-le-suc, not-suc-le-zero}
 use native.Mathlib.Numerals.{add-one}
 use native.Mathlib.Omega.{arith}
@@ -10,7 +10,7 @@ use lib.ListN.{length, getD, take, List·getD-append}
 use lib.Seq.{getD-append-add, take-suc}
 use borrow.Author.Tests.{eq-eqb, ne-eqb}
 use Rattle.heads.proofs.Below.{agree}
-use Rattle.heads.specs.Mpeg.{Layer, layer1, layer2, layer3, lowLayer3, shaped, mpegShape, layer3Shape}
+use Rattle.heads.specs.Mpeg.{Layer, layer1, layer2, layer3, lowLayer3, shaped, mpegKbps, mpegRate, mpegShape, layer3Shape}
 use Rattle.heads.specs.declared.mpeg.MpegShape.{MpegShape}
 use Rattle.heads.specs.Chart.{unpadded, forEach, ids, layers, indices, rates, chartRow, layerRows, idRows, chartRows}
 
@@ -78,6 +78,27 @@ module _ (ID layer index rate : ℕ) where
       ∙ ap (λ (p : ℕ). getD (chartRow ID layer index) p 0) cell
       ∙ in-part 0 1 (λ (x : ℕ). unpadded ID layer index x ∷ []) (λ (x : ℕ). refl) rates rate 0 f (omega arith)
       ∙ ap (unpadded ID layer index) (rate-at rate f)
+
+-- and that is document 01's floor formula, by the layer
+module _ (ID index rate : ℕ) where
+  abbrev bits : ℕ → ℕ
+  bits layer = mpegKbps ID layer index * 1000
+
+  pub layer1-floor : unpadded ID 3 index rate ≡ 12 * bits 3 / mpegRate ID rate * 4
+  unfolding mpegShape
+  layer1-floor = omega arith
+
+  pub layer2-floor : unpadded ID 2 index rate ≡ 144 * bits 2 / mpegRate ID rate
+  unfolding mpegShape
+  layer2-floor = omega arith
+
+pub layer3-floor : (index rate : ℕ) → unpadded 1 1 index rate ≡ 144 * (mpegKbps 1 1 index * 1000) / mpegRate 1 rate
+unfolding mpegShape layer3Shape
+layer3-floor index rate = omega arith
+
+pub low-layer3-floor : (index rate : ℕ) → unpadded 0 1 index rate ≡ 72 * (mpegKbps 0 1 index * 1000) / mpegRate 0 rate
+unfolding mpegShape layer3Shape
+low-layer3-floor index rate = omega arith
 
 -- as many rows as there are, and rows of three
 pub rows-count : length chartRows ≡ 84
