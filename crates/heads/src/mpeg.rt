@@ -171,8 +171,8 @@ pub fn parse_mpeg_audio_header(b: &[u8]) -> Head
     })
 }
 
-// Every field of a head, in the order of the table. The bits of the four bytes, by the fields' first letters (O is
-// original/home, E emphasis, X mode_extension):
+// Every field of a head, in the order of the table. The bits of the four bytes, a letter for each field's name: p is
+// protection_bit, then padding_bit and private_bit; f is sampling_frequency, x mode_extension.
 //   ssssssss  ssssillp  bbbbffpp  mmxxcoee
 pub fn mpeg_fields(b: &[u8]) -> MpegFields
     requires { ⌜ 4 ≤ length (now b) ⌝ }
