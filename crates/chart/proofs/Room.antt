@@ -7,7 +7,7 @@ use lib.Dec.{leb→le}
 use lib.ListN.{length}
 use Rattle.numbers.specs.Decimal.{decimal, right}
 use Rattle.heads.specs.Mpeg.{mpegKbps, mpegRate, mpegShape, layer3Shape}
-use Rattle.heads.specs.Chart.{chartRows}
+use Rattle.heads.specs.Chart.{chart}
 use Rattle.text.specs.Output.{noOutput, blockLength, Put, Holds}
 use Rattle.text.specs.declared.output.Output.{Output}
 use Rattle.text.proofs.Blocks.{put-whole}
@@ -18,7 +18,7 @@ use Rattle.chart.specs.declared.page.Form.{Form}
 use Rattle.chart.specs.declared.page.Form.the-variants.{List as ListForm, Table, Unknown}
 
 pub list-fits : length listText ≤ blockLength
-unfolding listText chartRows right decimal mpegShape layer3Shape mpegKbps mpegRate
+unfolding listText chart right decimal mpegShape layer3Shape mpegKbps mpegRate
 list-fits = leb→le (length listText) blockLength tt
 
 pub table-fits : length tableText ≤ blockLength

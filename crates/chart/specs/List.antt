@@ -2,16 +2,12 @@
 use mathlib.Core.List.{List, [], _∷_, _++_}
 use Prim.Native.Nat.{ℕ}
 use Rattle.numbers.specs.Decimal.{decimal, right}
-use Rattle.heads.specs.Chart.{chart}
+use Rattle.heads.specs.Chart.{forEach, chart}
 
 -- closed by a line feed
 abbrev pub lineOf : ℕ → List ℕ
 lineOf n = right 6 (decimal n) ++ (10 ∷ [])
 
-abbrev pub lines : List ℕ → List ℕ
-lines [] = []
-lines (n ∷ ns) = lineOf n ++ lines ns
-
 -- the 252 lengths in the chart's order
 unfoldable pub listText : List ℕ
-listText = lines chart
+listText = forEach chart lineOf

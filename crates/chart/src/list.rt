@@ -10,10 +10,8 @@ pub fn put_list(out: Output, block: &mut [u8; BLOCK_LEN]) -> Output
 {
     let chart = heads::mpeg_chart();
     let mut text = out;
-    for row in 0..84 {
-        text = put_line(text, block, chart[row][0]);
-        text = put_line(text, block, chart[row][1]);
-        text = put_line(text, block, chart[row][2]);
+    for i in 0..252 {
+        text = put_line(text, block, chart[i]);
     }
     text
 }

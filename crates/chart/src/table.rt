@@ -86,16 +86,16 @@ fn put_rows(out: Output, block: &mut [u8; BLOCK_LEN], id: u8, layer: u8) -> Outp
     let first = (id as usize * 3 + (3 - layer) as usize) * 14;
     let mut text = out;
     for i in 0..14 {
-        let row = first + i;
+        let at = (first + i) * 3;
         let kbps = mpeg_bit_rate(id, layer, i + 1);
         text = put_row(
             text,
             block,
             i + 1,
             kbps,
-            chart[row][0],
-            chart[row][1],
-            chart[row][2],
+            chart[at],
+            chart[at + 1],
+            chart[at + 2],
         );
     }
     text

@@ -12,28 +12,29 @@ use borrow.Author.Tests.{eq-eqb, ne-eqb}
 use Rattle.heads.proofs.Below.{agree}
 use Rattle.heads.specs.Mpeg.{Layer, layer1, layer2, layer3, lowLayer3, shaped, mpegKbps, mpegRate, mpegShape, layer3Shape}
 use Rattle.heads.specs.declared.mpeg.MpegShape.{MpegShape}
-use Rattle.heads.specs.Chart.{unpadded, forEach, ids, layers, indices, rates, chartRow, layerRows, idRows, chartRows}
+use Rattle.heads.specs.Chart.{unpadded, forEach, ids, layers, indices, rates, indexPart, layerPart, idPart, chart}
 
 -- of lists of n elements for each of some numbers, joined: element j of the list for number i
-pub in-part : {A : Type 0} (d : A) (n : ℕ) (f : ℕ → List A) → ((x : ℕ) → length (f x) ≡ n) → (xs : List ℕ) (i j : ℕ)
-    → i < length xs → j < n → getD (forEach xs f) (i * n + j) d ≡ getD (f (getD xs i 0)) j d
-in-part d n f e [] i j h l = absurd (not-suc-le-zero h)
-in-part d n f e (x ∷ xs) zero j h l =
+pub in-part : (n : ℕ) (f : ℕ → List ℕ) → ((x : ℕ) → length (f x) ≡ n) → (xs : List ℕ) (i j : ℕ)
+    → i < length xs → j < n → getD (forEach xs f) (i * n + j) 0 ≡ getD (f (getD xs i 0)) j 0
+in-part n f e [] i j h l = absurd (not-suc-le-zero h)
+in-part n f e (x ∷ xs) zero j h l =
     let p : 0 * n + j ≡ j = omega arith in
-    rw p (List·getD-append (f x) (forEach xs f) d j (rw (e x) l))
-in-part d n f e (x ∷ xs) (suc i) j h l =
+    rw p (List·getD-append (f x) (forEach xs f) 0 j (rw (e x) l))
+in-part n f e (x ∷ xs) (suc i) j h l =
     let p : suc i * n + j ≡ length (f x) + (i * n + j) = rw (e x) (omega arith) in
-    rw p (getD-append-add (f x) (forEach xs f) (i * n + j) d ∙ in-part d n f e xs i j (le-of-suc-le-suc h) l)
+    rw p (getD-append-add (f x) (forEach xs f) (i * n + j) 0 ∙ in-part n f e xs i j (le-of-suc-le-suc h) l)
 
-for-each-append : {A : Type 0} (f : ℕ → List A) (a b : List ℕ) → forEach (a ++ b) f ≡ forEach a f ++ forEach b f
+for-each-append : (f : ℕ → List ℕ) (a b : List ℕ) → forEach (a ++ b) f ≡ forEach a f ++ forEach b f
 for-each-append f [] b = refl
 for-each-append f (x ∷ a) b = rw (for-each-append f a b) (sym (append-assoc (f x) (forEach a f) (forEach b f)))
 
 -- a number more
-pub for-each-next : {A : Type 0} (f : ℕ → List A) (xs : List ℕ) (i x : ℕ) → i < length xs → getD xs i 0 ≡ x
-    → forEach (take (i + 1) xs) f ≡ forEach (take i xs) f ++ f x
-for-each-next f xs i x h e =
-    rw (add-one i, take-suc xs i 0 h, e, for-each-append f (take i xs) (x ∷ []), append-nil (f x))
+pub for-each-next : (f : ℕ → List ℕ) (xs : List ℕ) (i : ℕ) → i < length xs
+    → forEach (take (i + 1) xs) f ≡ forEach (take i xs) f ++ f (getD xs i 0)
+for-each-next f xs i h =
+    let x = getD xs i 0 in
+    rw (add-one i, take-suc xs i 0 h, for-each-append f (take i xs) (x ∷ []), append-nil (f x))
 
 -- what the chart goes through, by its place there
 id-at : (k : ℕ) → k < 2 → getD ids k 0 ≡ k
@@ -50,33 +51,27 @@ rate-at = agree 3 (λ (k : ℕ). getD rates k 0) (λ (k : ℕ). k) tt
 
 -- each entry of the chart is the length that the formula gives
 module _ (ID layer index rate : ℕ) where
-  -- where its row stands
-  abbrev pub rowOf : ℕ
-  rowOf = (ID * 3 + (3 - layer)) * 14 + (index - 1)
-
-  row-at : ID < 2 → 0 < layer → layer < 4 → 0 < index → index < 15 → getD chartRows rowOf [] ≡ chartRow ID layer index
-  unfolding chartRows
-  row-at a b c d e =
-      let k = 3 - layer in
-      let n = index - 1 in
-      let place : rowOf ≡ ID * 42 + (k * 14 + (n * 1 + 0)) = omega arith in
-      let code : 3 - k ≡ layer = omega arith in
-      let next : n + 1 ≡ index = omega arith in
-      ap (λ (p : ℕ). getD chartRows p []) place
-      ∙ in-part [] 42 idRows (λ (x : ℕ). refl) ids ID (k * 14 + (n * 1 + 0)) a (omega arith)
-      ∙ ap (λ (x : ℕ). getD (idRows x) (k * 14 + (n * 1 + 0)) []) (id-at ID a)
-      ∙ in-part [] 14 (layerRows ID) (λ (x : ℕ). refl) layers k (n * 1 + 0) (omega arith) (omega arith)
-      ∙ ap (λ (x : ℕ). getD (layerRows ID x) (n * 1 + 0) []) (layer-at k (omega arith) ∙ code)
-      ∙ in-part [] 1 (λ (x : ℕ). chartRow ID layer x ∷ []) (λ (x : ℕ). refl) indices n 0 (omega arith) (omega arith)
-      ∙ ap (chartRow ID layer) (index-at n (omega arith) ∙ next)
+  -- where it stands
+  abbrev pub placeOf : ℕ
+  placeOf = ((ID * 3 + (3 - layer)) * 14 + (index - 1)) * 3 + rate
 
   pub entry : ID < 2 → 0 < layer → layer < 4 → 0 < index → index < 15 → rate < 3
-      → getD (getD chartRows rowOf []) rate 0 ≡ unpadded ID layer index rate
+      → getD chart placeOf 0 ≡ unpadded ID layer index rate
+  unfolding chart
   entry a b c d e f =
-      let cell : rate ≡ rate * 1 + 0 = omega arith in
-      ap (λ (row : List ℕ). getD row rate 0) (row-at a b c d e)
-      ∙ ap (λ (p : ℕ). getD (chartRow ID layer index) p 0) cell
-      ∙ in-part 0 1 (λ (x : ℕ). unpadded ID layer index x ∷ []) (λ (x : ℕ). refl) rates rate 0 f (omega arith)
+      let k = 3 - layer in
+      let n = index - 1 in
+      let place : placeOf ≡ ID * 126 + (k * 42 + (n * 3 + (rate * 1 + 0))) = omega arith in
+      let code : 3 - k ≡ layer = omega arith in
+      let next : n + 1 ≡ index = omega arith in
+      ap (λ (p : ℕ). getD chart p 0) place
+      ∙ in-part 126 idPart (λ (x : ℕ). refl) ids ID (k * 42 + (n * 3 + (rate * 1 + 0))) a (omega arith)
+      ∙ ap (λ (x : ℕ). getD (idPart x) (k * 42 + (n * 3 + (rate * 1 + 0))) 0) (id-at ID a)
+      ∙ in-part 42 (layerPart ID) (λ (x : ℕ). refl) layers k (n * 3 + (rate * 1 + 0)) (omega arith) (omega arith)
+      ∙ ap (λ (x : ℕ). getD (layerPart ID x) (n * 3 + (rate * 1 + 0)) 0) (layer-at k (omega arith) ∙ code)
+      ∙ in-part 3 (indexPart ID layer) (λ (x : ℕ). refl) indices n (rate * 1 + 0) (omega arith) (omega arith)
+      ∙ ap (λ (x : ℕ). getD (indexPart ID layer x) (rate * 1 + 0) 0) (index-at n (omega arith) ∙ next)
+      ∙ in-part 1 (λ (x : ℕ). unpadded ID layer index x ∷ []) (λ (x : ℕ). refl) rates rate 0 f (omega arith)
       ∙ ap (unpadded ID layer index) (rate-at rate f)
 
 -- and that is document 01's floor formula, by the layer
@@ -100,14 +95,9 @@ pub low-layer3-floor : (index rate : ℕ) → unpadded 0 1 index rate ≡ 72 * (
 unfolding mpegShape layer3Shape
 low-layer3-floor index rate = omega arith
 
--- as many rows as there are, and rows of three
-pub rows-count : length chartRows ≡ 84
-unfolding chartRows
-rows-count = refl
-
-pub row-of-three : (k : ℕ) → k < 84 → length (getD chartRows k []) ≡ 3
-unfolding chartRows
-row-of-three = agree 84 (λ (k : ℕ). length (getD chartRows k [])) (λ (k : ℕ). 3) tt
+pub chart-length : length chart ≡ 252
+unfolding chart
+chart-length = refl
 
 -- a frame's shape by its unpadded length: padding is a slot more, of four bytes or of one
 abbrev shape : ℕ → Layer → MpegShape

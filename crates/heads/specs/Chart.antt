@@ -11,7 +11,7 @@ abbrev pub unpadded : ℕ → ℕ → ℕ → ℕ → ℕ
 unpadded ID layer index rate = mpegShape ID layer (mpegRate ID rate) (mpegKbps ID layer index * 1000) 0 .«frame_len»
 
 -- a list for each of some numbers, one behind the other
-abbrev pub forEach : {A : Type 0} → List ℕ → (ℕ → List A) → List A
+abbrev pub forEach : List ℕ → (ℕ → List ℕ) → List ℕ
 forEach [] f = []
 forEach (x ∷ xs) f = f x ++ forEach xs f
 
@@ -35,26 +35,17 @@ Charted f =
     (f .id < 2) × (0 < f .layer) × (f .layer < 4) × (0 < f .«bitrate_index») × (f .«bitrate_index» < 15)
     × (f .«sampling_frequency» < 3)
 
--- a row has a length for each rate
-abbrev pub chartRow : ℕ → ℕ → ℕ → List ℕ
-chartRow ID layer index = forEach rates (λ (rate : ℕ). unpadded ID layer index rate ∷ [])
+-- 'ID 0 before 1, Layer I to III, bit rate index rising, rate index rising fastest': three lengths for each index,
+-- fourteen times three for each layer, and three layers for each ID
+abbrev pub indexPart : ℕ → ℕ → ℕ → List ℕ
+indexPart ID layer index = forEach rates (λ (rate : ℕ). unpadded ID layer index rate ∷ [])
 
--- 'ID 0 before 1, Layer I to III, bit rate index rising, rate index rising fastest': a row for each index, fourteen
--- rows for each layer, three layers for each ID
-abbrev pub layerRows : ℕ → ℕ → List (List ℕ)
-layerRows ID layer = forEach indices (λ (index : ℕ). chartRow ID layer index ∷ [])
+abbrev pub layerPart : ℕ → ℕ → List ℕ
+layerPart ID layer = forEach indices (λ (index : ℕ). indexPart ID layer index)
 
-abbrev pub idRows : ℕ → List (List ℕ)
-idRows ID = forEach layers (λ (layer : ℕ). layerRows ID layer)
-
-unfoldable pub chartRows : List (List ℕ)
-chartRows = forEach ids (λ (ID : ℕ). idRows ID)
-
--- rows joined
-abbrev pub joined : List (List ℕ) → List ℕ
-joined [] = []
-joined (row ∷ rows) = row ++ joined rows
+abbrev pub idPart : ℕ → List ℕ
+idPart ID = forEach layers (λ (layer : ℕ). layerPart ID layer)
 
 -- the 252 lengths
-abbrev pub chart : List ℕ
-chart = joined chartRows
+unfoldable pub chart : List ℕ
+chart = forEach ids (λ (ID : ℕ). idPart ID)

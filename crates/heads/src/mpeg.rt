@@ -178,20 +178,24 @@ pub fn mpeg_fields(b: &[u8]) -> MpegFields
     requires { ⌜ 4 ≤ length (now b) ⌝ }
     ensures { λ r. ⌜ r ≡ mpegFields (now (b .entry)) ⌝ }
 {
+    let b0 = b[0];
+    let b1 = b[1];
+    let b2 = b[2];
+    let b3 = b[3];
     MpegFields {
-        syncword: b[0] as u16 * 16 + (b[1] >> 4) as u16,
-        id: (b[1] >> 3) % 2,
-        layer: (b[1] >> 1) % 4,
-        protection_bit: b[1] % 2,
-        bitrate_index: b[2] >> 4,
-        sampling_frequency: (b[2] >> 2) % 4,
-        padding_bit: (b[2] >> 1) % 2,
-        private_bit: b[2] % 2,
-        mode: b[3] >> 6,
-        mode_extension: (b[3] >> 4) % 4,
-        copyright: (b[3] >> 3) % 2,
-        original_home: (b[3] >> 2) % 2,
-        emphasis: b[3] % 4,
+        syncword: b0 as u16 * 16 + (b1 >> 4) as u16,
+        id: (b1 >> 3) % 2,
+        layer: (b1 >> 1) % 4,
+        protection_bit: b1 % 2,
+        bitrate_index: b2 >> 4,
+        sampling_frequency: (b2 >> 2) % 4,
+        padding_bit: (b2 >> 1) % 2,
+        private_bit: b2 % 2,
+        mode: b3 >> 6,
+        mode_extension: (b3 >> 4) % 4,
+        copyright: (b3 >> 3) % 2,
+        original_home: (b3 >> 2) % 2,
+        emphasis: b3 % 4,
     }
 }
 

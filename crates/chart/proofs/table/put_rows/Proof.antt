@@ -2,25 +2,25 @@
 use mathlib.Core.Path.{_≡_, refl}
 use Prim.Native.Nat.{_-_, _*_, _+_, _≤_}
 use native.Mathlib.Omega.{arith}
-use lib.ListN.{length, take}
-use lib.Seq.{take-all}
+use lib.ListN.{take}
 use denote.Ref.{now}
 use borrow.Author.Needs.{needs}
-use Rattle.heads.specs.Chart.{forEach, indices, chartRows}
+use Rattle.heads.specs.Chart.{forEach, indices, chart}
 use Rattle.text.specs.Output.{Put}
 use Rattle.text.proofs.Blocks.{put-none}
 use Rattle.chart.specs.Table.{rowText, rowsText}
+use Rattle.chart.proofs.Listing.{put-all}
 use Rattle.chart.proofs.Tabling.{rows-next}
 use Rattle.chart.proofs.table.put_rows.Statement.{statement}
 use Rattle.chart.proofs.table.put_rows.Tie as tie
 
 abbrev Inv-loop : tie.InvT-loop
-Inv-loop block₀ id layer chart first text₀ i₀ block text i =
-    (i ≤ 14) × (chart ≡ chartRows) × (first ≡ (id * 3 + (3 - layer)) * 14)
+Inv-loop block₀ id layer lengths first text₀ i₀ block text i =
+    (i ≤ 14) × (lengths ≡ chart) × (first ≡ (id * 3 + (3 - layer)) * 14)
     × Put (forEach (take i indices) (rowText id layer)) text₀ text block₀ block
 
 abbrev μ-loop : tie.MeasureT-loop
-μ-loop block₀ id layer chart first text₀ i₀ block text i = 14 - i
+μ-loop block₀ id layer lengths first text₀ i₀ block text i = 14 - i
 
 mpeg-chart-requires : tie.Need-mpeg-chart-requires Inv-loop μ-loop
 mpeg-chart-requires c κs = search needs
@@ -45,8 +45,11 @@ loop-holds c =
     let s = c .before .args in
     (search needs, c .mpeg-chart .ensures, refl, put-none (s .out) (now (s .block)))
 
-add-row : tie.Need-add-row Inv-loop μ-loop
-add-row c = search needs
+add-at : tie.Need-add-at Inv-loop μ-loop
+add-at c = search needs
+
+mul-at : tie.Need-mul-at Inv-loop μ-loop
+mul-at c = search needs
 
 add-mpeg-bit-rate : tie.Need-add-mpeg-bit-rate Inv-loop μ-loop
 add-mpeg-bit-rate c = search needs
@@ -60,29 +63,26 @@ add-put-row c = search needs
 mul-put-row : tie.Need-mul-put-row Inv-loop μ-loop
 mul-put-row c = search needs
 
-index-1-put-row : tie.Need-index-1-put-row Inv-loop μ-loop
-index-1-put-row c = search needs
+array-read-put-row : tie.Need-array-read-put-row Inv-loop μ-loop
+array-read-put-row c = search needs
 
-index-2-put-row : tie.Need-index-2-put-row Inv-loop μ-loop
-index-2-put-row c = search needs
+add-put-row-2 : tie.Need-add-put-row-2 Inv-loop μ-loop
+add-put-row-2 c = search needs
 
 mul-put-row-2 : tie.Need-mul-put-row-2 Inv-loop μ-loop
 mul-put-row-2 c = search needs
 
-index-1-put-row-2 : tie.Need-index-1-put-row-2 Inv-loop μ-loop
-index-1-put-row-2 c = search needs
+array-read-put-row-2 : tie.Need-array-read-put-row-2 Inv-loop μ-loop
+array-read-put-row-2 c = search needs
 
-index-2-put-row-2 : tie.Need-index-2-put-row-2 Inv-loop μ-loop
-index-2-put-row-2 c = search needs
+add-put-row-3 : tie.Need-add-put-row-3 Inv-loop μ-loop
+add-put-row-3 c = search needs
 
 mul-put-row-3 : tie.Need-mul-put-row-3 Inv-loop μ-loop
 mul-put-row-3 c = search needs
 
-index-1-put-row-3 : tie.Need-index-1-put-row-3 Inv-loop μ-loop
-index-1-put-row-3 c = search needs
-
-index-2-put-row-3 : tie.Need-index-2-put-row-3 Inv-loop μ-loop
-index-2-put-row-3 c = search needs
+array-read-put-row-3 : tie.Need-array-read-put-row-3 Inv-loop μ-loop
+array-read-put-row-3 c = search needs
 
 put-row-requires : tie.Need-put-row-requires Inv-loop μ-loop
 put-row-requires c κs = search needs
@@ -95,7 +95,7 @@ loop-less c = search needs
 
 loop-again : tie.Need-loop-again Inv-loop μ-loop
 loop-again c =
-    let rated = c .before .before .before .before .before in
+    let rated = c .before .before in
     let h = rated .before .before .loop in
     let table = rated .before .before .before in
     let s = table .before in
@@ -110,7 +110,7 @@ returns : tie.Need-returns Inv-loop μ-loop
 unfolding rowsText
 returns c =
     let h = c .before .loop in
-    rw (take-all (h .i) indices (omega arith)) at (h .inv .3)
+    put-all (rowText _ _) indices (h .i) (omega arith) (h .inv .3)
 
 pub put-rows-spec : {M : Type 1} → statement M
 put-rows-spec =
@@ -125,19 +125,19 @@ put-rows-spec =
     add-first
     mul-first-2
     loop-holds
-    add-row
+    add-at
+    mul-at
     add-mpeg-bit-rate
     mpeg-bit-rate-requires
     add-put-row
     mul-put-row
-    index-1-put-row
-    index-2-put-row
+    array-read-put-row
+    add-put-row-2
     mul-put-row-2
-    index-1-put-row-2
-    index-2-put-row-2
+    array-read-put-row-2
+    add-put-row-3
     mul-put-row-3
-    index-1-put-row-3
-    index-2-put-row-3
+    array-read-put-row-3
     put-row-requires
     add-i
     loop-less

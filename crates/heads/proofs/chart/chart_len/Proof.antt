@@ -34,23 +34,23 @@ cast-row c = search needs
 add-row : tie.Need-add-row
 add-row c = search needs
 
-cast-rate : tie.Need-cast-rate
-cast-rate c = search needs
-
 mul-result : tie.Need-mul-result
 mul-result c = search needs
+
+cast-result : tie.Need-cast-result
+cast-result c = search needs
+
+add-result : tie.Need-add-result
+add-result c = search needs
 
 mul-result-2 : tie.Need-mul-result-2
 mul-result-2 c = search needs
 
-index-1-result : tie.Need-index-1-result
-index-1-result c = search needs
-
-index-2-result : tie.Need-index-2-result
-index-2-result c = search needs
+array-read-result : tie.Need-array-read-result
+array-read-result c = search needs
 
 returns : tie.Need-returns
-returns c = rw (c .before .before .before .before .before .mpeg-chart .ensures) (search (entry, needs))
+returns c = rw (c .before .before .before .before .mpeg-chart .ensures) (search (entry, needs))
 
 pub chart-len-spec : {M : Type 1} → statement M
 chart-len-spec =
@@ -66,9 +66,9 @@ chart-len-spec =
     sub-row
     cast-row
     add-row
-    cast-rate
     mul-result
+    cast-result
+    add-result
     mul-result-2
-    index-1-result
-    index-2-result
+    array-read-result
     returns)
