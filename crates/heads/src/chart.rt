@@ -394,7 +394,7 @@ fn chart_len(f: MpegFields) -> u16
     ensures { λ r. ⌜ r ≡ unpadded (f .id) (f .layer) (f .«bitrate_index») (f .«sampling_frequency») ⌝ }
 {
     let chart = mpeg_chart();
-    let part = f.id as usize * 3 + (3 - f.layer) as usize;
-    let row = part * 14 + (f.bitrate_index - 1) as usize;
-    chart[row * 3 + f.sampling_frequency as usize]
+    let part = f.id * 3 + (3 - f.layer);
+    let row = part * 14 + (f.bitrate_index - 1);
+    chart[row as usize * 3 + f.sampling_frequency as usize]
 }
