@@ -95,6 +95,12 @@ pub low-layer3-floor : (index rate : ℕ) → unpadded 0 1 index rate ≡ 72 * (
 unfolding mpegShape layer3Shape
 low-layer3-floor index rate = omega arith
 
+-- as README.md looks one up: ID 1, Layer III, bit rate index 9 (128 kbit/s) and rate index 0 (44100 Hz), the 235th
+pub looked-up : getD chart 234 0 ≡ 417
+unfolding mpegShape layer3Shape mpegKbps mpegRate
+looked-up =
+    entry 1 1 9 0 (omega arith) (omega arith) (omega arith) (omega arith) (omega arith) (omega arith)
+
 pub chart-length : length chart ≡ 252
 unfolding chart
 chart-length = refl
