@@ -47,7 +47,7 @@ enum { AUDIO_FRAME_RECORD = 24 };
  *    3  bsid 9, 10 or above 16; MPEG layer code 0; ADTS layer not 0
  *    4  reserved rate or size code
  *    5  MPEG bit rate index 0 or 15
- *    6  ADTS frame length under 7, or under 9 with CRC
+ *    6  ADTS frame shorter than its head: under 7; with CRC under 9, 11, 13, 15 for 1 to 4 blocks
  * The order is 1, 2, 3, 4 and at last 1 for AC-3's seventh byte (code 0); 1, 2, 3, 5, 4 (code 1);
  * 1, 2, 3, 4, 6 (code 2).
  *

@@ -1,5 +1,7 @@
-//! Writes the Rust module, with `parts.rs` behind it, as the text that `src/lib.rs` includes. The
-//! module's own text and its licence must be the published ones, by their checksums.
+//! Writes two modules that `src/` includes: the Rust module, unchanged, and the module as requested,
+//! which is the same text with the edits of `requested/` made in the order of their names. Each has
+//! `parts.rs` behind it. The module's own text and its licence must be the published ones, by their
+//! checksums.
 //!
 //! AUDIO_FRAME_RS may name the text at another place, from the repository's root.
 
@@ -10,6 +12,7 @@ use std::{env, fs};
 const TEXT: &str = "audio_frame.rs";
 const PARTS: &str = "parts.rs";
 const SUMS: &str = "SHA256SUMS";
+const REQUESTED: &str = "requested";
 
 fn main() -> ExitCode {
     match write_modules() {
@@ -31,15 +34,46 @@ fn write_modules() -> Result<(), String> {
     println!("cargo::rerun-if-env-changed=AUDIO_FRAME_RS");
     println!("cargo::rerun-if-changed={}", text.display());
     check_sums(&folder, &text)?;
-    let module = module("audio_frame", &read(&text)?, &folder.join(PARTS));
-    let out = Path::new(&variable("OUT_DIR")?).join("audio_frame.rs");
+    let unchanged = read(&text)?;
+    let requested = edited(&unchanged, &folder.join(REQUESTED))?;
+    let parts = folder.join(PARTS);
+    write_module("audio_frame.rs", &unchanged, &parts)?;
+    write_module("requested.rs", &requested, &parts)
+}
+
+/// Writes a public module of that text, with the parts behind it. The text's lines keep their
+/// numbers, and a warning about it is nobody's.
+fn write_module(file: &str, text: &str, parts: &Path) -> Result<(), String> {
+    let module =
+        format!("#[allow(warnings)] pub mod audio_frame {{ {text}\ninclude!({parts:?});\n}}\n");
+    let out = Path::new(&variable("OUT_DIR")?).join(file);
     fs::write(&out, module).map_err(|error| format!("{}: {error}", out.display()))
 }
 
-/// A public module of that text, with the parts behind it. The text's lines keep their numbers, and
-/// a warning about it is nobody's.
-fn module(name: &str, text: &str, parts: &Path) -> String {
-    format!("#[allow(warnings)] pub mod {name} {{ {text}\ninclude!({parts:?});\n}}\n")
+/// The text with each edit of that folder made. There must be one at least.
+fn edited(text: &str, folder: &Path) -> Result<String, String> {
+    let entries = fs::read_dir(folder).map_err(|error| format!("{}: {error}", folder.display()))?;
+    let mut edits: Vec<PathBuf> = entries.flatten().map(|entry| entry.path()).collect();
+    edits.retain(|path| path.extension().is_some_and(|extension| extension == "edit"));
+    edits.sort();
+    if edits.is_empty() {
+        return Err(format!("{} has no edit", folder.display()));
+    }
+    edits.iter().try_fold(text.to_string(), |text, edit| {
+        made(&text, &read(edit)?).map_err(|what| format!("{}: {what}", edit.display()))
+    })
+}
+
+/// The text with one edit made: words about it, then the lines behind the line `OLD`, in whose place
+/// those behind the line `NEW` are put. The old ones must stand in the text exactly once.
+fn made(text: &str, edit: &str) -> Result<String, String> {
+    let (_, lines) = edit.split_once("\nOLD\n").ok_or("has no line OLD")?;
+    let (old, new) = lines.split_once("\nNEW\n").ok_or("has no line NEW behind it")?;
+    let (old, new) = (format!("{old}\n"), if new.is_empty() { "\n" } else { new });
+    match text.matches(&old).count() {
+        1 => Ok(text.replace(&old, new)),
+        times => Err(format!("its old lines stand {times} times in the text")),
+    }
 }
 
 /// Each recorded file must have its recorded sum, and so must the text, wherever it stands.

@@ -22,6 +22,7 @@ enum fault {
     TESTS_HEAD_BEFORE_12,
     TAKES_23_BYTES,
     READS_PAST_HEAD,
+    COUNTS_NO_POSITIONS,
     WRITES_BEHIND_HEAD,
     WRITES_BEFORE_PLACE,
     WRITES_BEHIND_TAPE,
@@ -35,6 +36,7 @@ enum fault {
     WRITES_UNUSED_BITS,
     WRITES_ONE_FIELD_MORE,
     WRITES_NEAR_THE_LARGEST_PLACE,
+    WRITES_WITHOUT_POSITIONS,
     CHART_PADS_LAYER_I_BY_1,
     CHART_PADS_LAYER_II_BY_4,
     CHART_HAS_TWO_RATES_EXCHANGED,
@@ -85,6 +87,11 @@ static uint32_t write_wrongly(writer *real, size_t size, size_t count, const uin
         field_count = count;
     if (fault == WRITES_NEAR_THE_LARGEST_PLACE && at > (size_t)-size)
         at = 0;
+    uint8_t blocks = 0;
+    if (fault == WRITES_WITHOUT_POSITIONS && count == AUDIO_FRAME_ADTS_FIELDS && own[3] == 0 && own[14] <= 3) {
+        blocks = (uint8_t)own[14];
+        own[14] = 0;
+    }
 
     uint32_t status = real(own, field_count, tape, tape_len, at);
     if (fault == WRITES_BEHIND_HEAD && status == 0 && at + size < tape_len)
@@ -99,6 +106,8 @@ static uint32_t write_wrongly(writer *real, size_t size, size_t count, const uin
         tape[at] ^= 1;
     if (fault == WRITES_UNUSED_BITS && status == 0 && size == 6)
         tape[at + 5] |= 1;
+    if (status == 0 && blocks > 0)
+        tape[at + 6] |= blocks;
     return status;
 }
 
@@ -114,6 +123,20 @@ WRITER(audio_frame_write_ac3, 7, AUDIO_FRAME_AC3_FIELDS)
 WRITER(audio_frame_write_eac3, 6, AUDIO_FRAME_EAC3_FIELDS)
 WRITER(audio_frame_write_mpeg, 4, AUDIO_FRAME_MPEG_FIELDS)
 WRITER(audio_frame_write_adts, 7, AUDIO_FRAME_ADTS_FIELDS)
+
+/* An ADTS head of at least 7 bytes with CRC as the unchanged Rust reads it, with no bytes for the positions of further
+ * blocks: it is asked about without those blocks, and their samples, 1024 each, are put in afterwards. */
+static uint32_t read_without_positions(const uint8_t *head, uint8_t *out, size_t out_len)
+{
+    uint8_t own[7];
+
+    memcpy(own, head, sizeof own);
+    own[6] &= 0xFC;
+    uint32_t status = __real_audio_frame_head(AUDIO_FRAME_ADTS, own, sizeof own, out, out_len);
+    if (status == 0)
+        out[9] = (uint8_t)(4 * (1 + (head[6] & 3)));
+    return status;
+}
 
 uint32_t __wrap_audio_frame_head(uint32_t code, const uint8_t *head, size_t head_len, uint8_t *out,
                                  size_t out_len)
@@ -132,6 +155,8 @@ uint32_t __wrap_audio_frame_head(uint32_t code, const uint8_t *head, size_t head
     }
     if (fault == READS_PAST_HEAD)
         head_len++;
+    if (fault == COUNTS_NO_POSITIONS && code == AUDIO_FRAME_ADTS && head_len >= 7 && (head[1] & 1) == 0)
+        return read_without_positions(head, out, out_len);
 
     uint32_t status = __real_audio_frame_head(code, head, head_len, out, out_len);
     if (fault == CHANGES_BYTE_24 && status == 0 && out_len > 24)

@@ -21,6 +21,21 @@ replace() {
   printf '%s\n' "${text/"$2"/"$3"}" >"$1"
 }
 
+# as_requested FILE: writes the Rust module as requested, by the rule of host/oracle/build.rs: the lines of an edit that
+# stand behind OLD, and in the text exactly once, give way to those behind NEW.
+as_requested() {
+  local edit lines old new
+  cp host/oracle/audio_frame.rs "$1"
+  for edit in host/oracle/requested/*.edit; do
+    lines=$(<"$edit")$'\n'
+    [[ $lines == *$'\nOLD\n'*$'\nNEW\n'* ]] || die "$edit has no lines OLD and NEW"
+    lines=${lines#*$'\nOLD\n'}
+    old=${lines%%$'\nNEW\n'*}$'\n'
+    new=${lines#*$'\nNEW\n'}
+    replace "$1" "$old" "${new:-$'\n'}"
+  done
+}
+
 # expect_difference NAME COMMAND..: runs a command that has to stop at a difference. What a program
 # that it stops has to say about that goes to another file.
 expect_difference() {
@@ -74,4 +89,68 @@ build_modules() {
     '        name => panic!("no mutant {name}"),' '    }' '}' >"$mutants/wrong.rs"
   rustc --edition 2021 -C opt-level=0 -C debug-assertions=off --extern "$1=$built/lib$1.rlib" \
     -L "dependency=$built/deps" -o "$mutants/wrong" "$mutants/wrong.rs" || die "a mutant does not build"
+}
+
+# Wrong runners: a copy of the workspace in which all changes are made at once. Each is made only where the environment
+# names it in WRONG, so that one build serves all of them. With UNCHECKED set a runner leaves out the cases that were
+# worked out by hand, so that its run alone has to show the change.
+changes=()
+
+# copy_host: the copy, $copy, without any change.
+copy_host() {
+  unset AUDIO_FRAME_RS
+  copy=$root/$mutants/copy
+  mkdir -p "$copy/host"
+  cp -r host/{Cargo.toml,Cargo.lock,oracle,common,heads,splitter,sheet,benchmarks} "$copy/host"
+  cat >>"$copy/host/oracle/src/lib.rs" <<'END'
+
+/// Whether the environment names that change.
+pub fn is_wrong(name: &str) -> bool {
+    static NAME: std::sync::LazyLock<String> =
+        std::sync::LazyLock::new(|| std::env::var("WRONG").unwrap_or_default());
+    *NAME == name
+}
+
+/// Whether the cases that were worked out by hand are held to.
+pub fn is_checked() -> bool {
+    std::env::var_os("UNCHECKED").is_none()
+}
+END
+}
+
+# instead NAME FILE OLD NEW: the change NAME, in FILE of the copy's host/ the expression NEW for OLD. Changes of one
+# expression may stand in each other.
+instead() {
+  local is_wrong=oracle::is_wrong
+  [[ $2 != oracle/* ]] || is_wrong=crate::is_wrong
+  replace "$copy/host/$2" "$3" "match $is_wrong(\"$1\") { true => $4, false => $3 }"
+  changes+=("$1")
+}
+
+# wrong_edit NAME NEW: K3's edit gives an ADTS head another length.
+wrong_edit() {
+  instead "$1" oracle/requested/K3-adts-head-length.edit \
+    'if protection_absent == 1 { 7 } else { 9 + 2 * raw_blocks as usize }' "if protection_absent == 1 $2"
+}
+
+# wrong_domain NAME OLD NEW: another domain of equality.
+wrong_domain() {
+  instead "$1" oracle/src/domain/mod.rs "$2" "$3"
+}
+
+# build_runner MEMBER PROGRAM: builds that program of the copy, which is then $runner.
+build_runner() {
+  root=$copy host_cargo build --quiet --profile mutant -p "$1" --bin "$2" || die "a wrong $2 does not build"
+  runner=$copy/target/host/mutant/$2
+}
+
+# run_changes WORD..: expects a difference at each change where $runner is run with these words, and none without one.
+run_changes() {
+  local name
+  "$runner" "$@" >/dev/null || die "$runner $* finds a difference without a change"
+  for name in "${changes[@]}"; do
+    dir=$mutants/$name
+    mkdir "$dir"
+    WRONG=$name UNCHECKED=yes expect_difference "$name" "$runner" "$@"
+  done
 }

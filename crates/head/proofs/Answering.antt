@@ -3,6 +3,8 @@ use mathlib.Core.Path.{_≡_, refl, sym, _∙_}
 use mathlib.Core.List.{List, [], _∷_, _++_, append-assoc, append-nil}
 use Prim.Native.Nat.{ℕ}
 use Rattle.heads.specs.Numbers.{kindNumber, bitRateNumber, refusalNumber, headAnswer}
+use Rattle.heads.specs.Adts.{adtsReport}
+use Rattle.heads.specs.declared.adts.AdtsHead.{AdtsHead}
 use Rattle.heads.specs.declared.info.AudioFrameInfo.{AudioFrameInfo}
 use Rattle.heads.specs.declared.info.Head.{Head}
 use Rattle.heads.specs.declared.info.Head.the-variants.{Read, Refused}
@@ -12,7 +14,7 @@ use Rattle.numbers.specs.Decimal.{decimal}
 use Rattle.text.specs.Output.{Put}
 use Rattle.text.specs.declared.output.Output.{Output}
 use Rattle.text.proofs.Blocks.{put-both}
-use Rattle.head.specs.Answer.{further, refusedText, answerText, answerLine}
+use Rattle.head.specs.Answer.{further, refusedText, answerText, answerLine, headerLine}
 
 -- numbers put behind a text, one after the other
 abbrev behind : List ℕ → List ℕ → List ℕ
@@ -66,3 +68,15 @@ pub head-line : (reader : List ℕ → Head) (lent bytes : List ℕ) (x : Head) 
     → lent ≡ bytes → x ≡ reader lent → Put (answerLine (headAnswer x)) o last b exit
     → Put (answerLine (headAnswer (reader bytes))) o last b exit
 head-line reader lent bytes x e is p = rw (← e, ← is) p
+
+-- the length of the ADTS head of the bytes, by the case of what is reported of it
+module _ (lent bytes : List ℕ) (x : AdtsHead) {o last : Output} {b exit : List ℕ} where
+  pub length-line : (i : AudioFrameInfo) (n : ℕ) {o1 : Output} {b1 : List ℕ} → lent ≡ bytes → x ≡ adtsReport lent
+      → x ≡ AdtsHead.Read i n → Put (decimal n) o o1 b b1 → Put (10 ∷ []) o1 last b1 exit
+      → Put (headerLine (adtsReport bytes)) o last b exit
+  length-line i n e is read p q = rw (← e, ← is, read) (put-both p q)
+
+  pub no-length-line : (g : Refusal) (n : ℕ) → lent ≡ bytes → x ≡ adtsReport lent → x ≡ AdtsHead.Refused g
+      → n ≡ refusalNumber g → Put (refusedText n ++ (10 ∷ [])) o last b exit
+      → Put (headerLine (adtsReport bytes)) o last b exit
+  no-length-line g n e is refused number p = rw (← e, ← is, refused, ← number) p

@@ -1,7 +1,9 @@
--- The line that answers a head: its values, or the number of its refusal; and bytes as a line.
+-- The line that answers a head: its values, its own length, or the number of its refusal; and bytes as a line.
 use mathlib.Core.List.{List, [], _∷_, _++_}
 use Prim.Native.Nat.{ℕ, zero, suc, _/_, _%_}
-use Rattle.heads.specs.Numbers.{HeadAnswer}
+use Rattle.heads.specs.Numbers.{HeadAnswer, refusalNumber}
+use Rattle.heads.specs.declared.adts.AdtsHead.{AdtsHead}
+use Rattle.heads.specs.declared.adts.AdtsHead.the-variants.{Read, Refused}
 use Rattle.numbers.specs.Decimal.{decimal}
 use Rattle.text.specs.Octet.{digitOf}
 
@@ -25,6 +27,11 @@ answerText (suc k) values = refusedText (suc k)
 -- closed by a line feed
 abbrev pub answerLine : HeadAnswer → List ℕ
 answerLine a = answerText (a .number) (a .values) ++ (10 ∷ [])
+
+-- the length of an ADTS head, or the refusal
+abbrev pub headerLine : AdtsHead → List ℕ
+headerLine (Read i n) = decimal n ++ (10 ∷ [])
+headerLine (Refused ground) = refusedText (refusalNumber ground) ++ (10 ∷ [])
 
 -- a byte as two hexadecimal digits; bytes, a space between them
 abbrev pub octetText : ℕ → List ℕ

@@ -4,6 +4,7 @@ use crate::request::Request;
 use crate::request::parse_request;
 use crate::tape::put_write;
 use crate::writing::FIELDS_MAX;
+use heads::AdtsHead;
 use heads::AudioFrameInfo;
 use heads::AudioSyntax;
 use heads::CodedSyntax;
@@ -14,11 +15,12 @@ use text::front;
 ghost use mathlib.Core.List.{_∷_, [], _++_};
 ghost use lib.ListN.{take};
 ghost use Rattle.heads.specs.Numbers.{headAnswer};
+ghost use Rattle.heads.specs.Adts.{adtsReport};
 ghost use Rattle.heads.specs.Mpeg.{mpegHead};
 ghost use Rattle.heads.specs.Syntax.{headOfCode};
 ghost use Rattle.numbers.specs.Decimal.{decimal};
 ghost use Rattle.text.specs.Output.{Put};
-ghost use Rattle.head.specs.Answer.{answerLine, refusedText};
+ghost use Rattle.head.specs.Answer.{answerLine, headerLine, refusedText};
 
 pub fn put_answer(out: Output, block: &mut [u8; BLOCK_LEN], line: &[u8]) -> Output {
     let mut bytes = [0u8; BYTES_MAX];
@@ -26,6 +28,7 @@ pub fn put_answer(out: Output, block: &mut [u8; BLOCK_LEN], line: &[u8]) -> Outp
     match parse_request(line, &mut bytes, &mut numbers) {
         Request::Head { code, count } => put_head(out, block, code, &bytes, count),
         Request::Chart { count } => put_by_chart(out, block, &bytes, count),
+        Request::HeaderLen { count } => put_header_len(out, block, &bytes, count),
         Request::Skip { code, count } => put_skip(out, block, code, &bytes, count),
         Request::Duration { samples, rate } => put_duration(out, block, samples, rate),
         Request::Write { table, at, room } => put_write(out, block, table, &numbers, room, at),
@@ -72,6 +75,26 @@ fn put_by_chart(
 {
     let head = heads::parse_mpeg_audio_header_by_chart(front(bytes, count));
     put_read(out, block, head)
+}
+
+// The length of an ADTS head itself.
+fn put_header_len(
+    out: Output,
+    block: &mut [u8; BLOCK_LEN],
+    bytes: &[u8; BYTES_MAX],
+    count: usize,
+) -> Output
+    ensures { λ r. ⌜
+        Put (headerLine (adtsReport (take count (now (bytes .entry))))) out r (now (block .entry)) (now (block .exit))
+        ⌝ }
+{
+    match heads::parse_adts_header(front(bytes, count)) {
+        AdtsHead::Read { header_len, .. } => {
+            out.put_decimal(block, header_len as u64)
+                .put_byte(block, b'\n')
+        }
+        AdtsHead::Refused(refusal) => put_refusal(out, block, refusal.number()),
+    }
 }
 
 // What was read.

@@ -1,6 +1,7 @@
 // What a line of input asks for. A head is its syntax code and its bytes, as `2 FF F1 50 80 00 E0 00`; an MPEG audio
-// head that is read by the wall chart is `m FF FB 90 C0`; a skip to the first place at which a head can begin is
-// `s 2 00 FF F1`; a duration is `d 1024 44100`; writing.rt has the lines that have a head written.
+// head that is read by the wall chart is `m FF FB 90 C0`; the length of an ADTS head itself is
+// `h FF F0 50 80 01 60 01`; a skip to the first place at which a head can begin is `s 2 00 FF F1`; a duration is
+// `d 1024 44100`; writing.rt has the lines that have a head written.
 use crate::writing::FIELDS_MAX;
 use crate::writing::Table;
 use crate::writing::parse_write;
@@ -18,14 +19,17 @@ pub const BYTES_MAX: usize = 128;
 // The most digits of a number.
 const DIGITS_MAX: usize = 10;
 
-// The bytes of a head, read in either way, or of a skip are the first count of the lent bytes. The fields of a head to
-// be written are the lent numbers, as many as its table has.
+// The bytes of a head, read in any way, or of a skip are the first count of the lent bytes. The fields of a head to be
+// written are the lent numbers, as many as its table has.
 pub enum Request {
     Head {
         code: u32,
         count: usize,
     },
     Chart {
+        count: usize,
+    },
+    HeaderLen {
         count: usize,
     },
     Skip {
@@ -67,6 +71,7 @@ pub fn parse_request(
     let letter = line[0];
     match letter {
         b'd' => parse_duration(line),
+        b'h' => parse_header_len(line, bytes),
         b'm' => parse_chart(line, bytes),
         b's' => parse_skip(line, bytes),
         b'w' => parse_write(line, numbers),
@@ -87,6 +92,14 @@ fn parse_chart(line: &[u8], bytes: &mut [u8; BYTES_MAX]) -> Request {
         return Request::Malformed;
     };
     Request::Chart { count }
+}
+
+// The letter h, and the bytes.
+fn parse_header_len(line: &[u8], bytes: &mut [u8; BYTES_MAX]) -> Request {
+    let Bytes::Count(count) = parse_bytes(line, 1, bytes) else {
+        return Request::Malformed;
+    };
+    Request::HeaderLen { count }
 }
 
 // The letter s, a space, and what a head line has.

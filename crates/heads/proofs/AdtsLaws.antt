@@ -1,5 +1,5 @@
 -- The ADTS head's definition from its bytes. Assumes nothing.
-use mathlib.Core.Path.{_≡_, sym, _∙_}
+use mathlib.Core.Path.{_≡_, refl, sym, _∙_, ap}
 use mathlib.Core.List.{List}
 use Prim.Native.Nat.{ℕ, _≤_, _<_, _+_, _*_, _/_, _%_}
 use native.Mathlib.Omega.{arith}
@@ -7,20 +7,59 @@ use lib.ListN.{length, getD}
 use borrow.Author.Tests.{lt-ltb, le-ltb}
 use Rattle.heads.specs.Bits.{Bytes, number}
 use Rattle.heads.specs.Judge.{refuseIf}
-use Rattle.heads.specs.Adts.{adtsHead, adtsJudged, adtsFields, adtsRates}
+use Rattle.heads.specs.Numbers.{adtsAnswer}
+use Rattle.heads.specs.Adts.{adtsHead, adtsJudged, adtsFields, adtsRates, adtsHeaderLength, adtsHeaderOf, adtsReport, withHeader, withoutHeader}
+use Rattle.heads.specs.declared.adts.AdtsHead.{AdtsHead}
 use Rattle.heads.specs.declared.fields.AdtsFields.{AdtsFields}
+use Rattle.heads.specs.declared.info.AudioFrameInfo.{AudioFrameInfo}
 use Rattle.heads.specs.declared.info.Head.{Head}
-use Rattle.heads.specs.declared.info.Head.the-variants.{Refused}
+use Rattle.heads.specs.declared.info.Head.the-variants.{Read, Refused}
+use Rattle.heads.specs.declared.info.Refusal.{Refusal}
 use Rattle.heads.specs.declared.info.Refusal.the-variants.{ShortHead}
 
 pub short : (b : List ℕ) → length b < 7 → Refused ShortHead ≡ adtsHead b
 unfolding adtsHead refuseIf
 short b p = rw (lt-ltb (length b) 7 p)
 
+-- a report that is the defined one has its number and its values
+pub reported : {x r : AdtsHead} → x ≡ r → (x ≡ r) × (adtsAnswer x ≡ adtsAnswer r)
+reported e = (e, ap adtsAnswer e)
+
+-- the report of a head that is refused, and of one that is read
+pub refused-as : (b : List ℕ) (ground : Refusal) → Refused ground ≡ adtsHead b → AdtsHead.Refused ground ≡ adtsReport b
+unfolding adtsReport
+refused-as b ground e = ap (λ h. withHeader h (adtsHeaderOf (adtsFields b))) e
+
+pub read-as : (b : List ℕ) (i : AudioFrameInfo) (n : ℕ) → Read i ≡ adtsHead b → n ≡ adtsHeaderOf (adtsFields b)
+    → AdtsHead.Read i n ≡ adtsReport b
+unfolding adtsReport
+read-as b i n e l = λ t. withHeader (e t) (l t)
+
+-- without the head's length a report is the head
+pub without : (b : List ℕ) → withoutHeader (adtsReport b) ≡ adtsHead b
+unfolding adtsReport
+without b = of (adtsHead b)
+  where
+    of : (h : Head) → withoutHeader (withHeader h (adtsHeaderOf (adtsFields b))) ≡ h
+    of (Read i) = refl
+    of (Refused ground) = refl
+
 -- a head whose seven bytes are there is judged by its fields alone
 pub by-fields : (b : List ℕ) → 7 ≤ length b → adtsHead b ≡ adtsJudged adtsRates (adtsFields b)
 unfolding adtsHead refuseIf
 by-fields b l = rw (le-ltb (length b) 7 l)
+
+-- and what is left of either
+pub read-without : (r : AdtsHead) (i : AudioFrameInfo) (n : ℕ) → r ≡ AdtsHead.Read i n → Read i ≡ withoutHeader r
+read-without r i n e = sym (ap withoutHeader e)
+
+pub refused-without : (r : AdtsHead) (ground : Refusal) → r ≡ AdtsHead.Refused ground
+    → Refused ground ≡ withoutHeader r
+refused-without r ground e = sym (ap withoutHeader e)
+
+-- two bytes of CRC behind the positions, or counted first
+pub with-crc : (n : ℕ) → 9 + 2 * n ≡ 7 + 2 * n + 2
+with-crc n = omega arith
 
 -- the fields that are judged, from the bytes
 abbrev pub adtsByBytes : List ℕ → AdtsFields
@@ -97,3 +136,7 @@ module _ (b : List ℕ) (byte : Bytes b) where
         «number_of_raw_data_blocks_in_frame» = sym blocks-is i;
       }) in
       rw (le-ltb (length b) 7 p) (j ∙ e)
+
+  -- and so is its own length
+  pub header-is : (n : ℕ) → n ≡ adtsHeaderOf (adtsByBytes b) → n ≡ adtsHeaderOf (adtsFields b)
+  header-is n e = rw (protection-absent-is, blocks-is) e

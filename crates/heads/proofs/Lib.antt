@@ -25,6 +25,7 @@ pub mod Local
 pub mod Reported
 pub mod Reached
 pub mod Order
+pub mod HeaderLengths
 pub mod Readers
 pub mod WriteCases
 pub mod Promise

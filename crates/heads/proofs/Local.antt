@@ -11,7 +11,7 @@ use lib.Seq.{getD-take, take-append-le}
 use borrow.Author.Tests.{lt-ltb, le-ltb, ltb-true, ltb-false}
 use Rattle.heads.specs.Bits.{number}
 use Rattle.heads.specs.Judge.{refuseIf}
-use Rattle.heads.specs.Adts.{adtsHead}
+use Rattle.heads.specs.Adts.{adtsHead, adtsReport}
 use Rattle.heads.specs.Mpeg.{mpegHead}
 use Rattle.heads.specs.Ac3.{ac3Fields, ac3Judged}
 use Rattle.heads.specs.Eac3.{eac3Fields, eac3Judged}
@@ -42,6 +42,11 @@ short-take n m b h = go (ltb (length b) n) refl
 pub adts-local : (m : ℕ) (b : List ℕ) → 7 ≤ m → adtsHead (take m b) ≡ adtsHead b
 unfolding adtsHead
 adts-local m b h = rw (short-take 7 m b h, number-take 7 m b h)
+
+-- and what is reported beside it
+pub report-local : (m : ℕ) (b : List ℕ) → 7 ≤ m → adtsReport (take m b) ≡ adtsReport b
+unfolding adtsReport
+report-local m b h = rw (adts-local m b h, number-take 7 m b h)
 
 pub mpeg-local : (m : ℕ) (b : List ℕ) → 4 ≤ m → mpegHead (take m b) ≡ mpegHead b
 unfolding mpegHead

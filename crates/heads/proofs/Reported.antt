@@ -1,8 +1,8 @@
 -- The least and the greatest that each syntax's head can say. Assumes nothing.
-use mathlib.Core.Path.{_≡_, refl}
+use mathlib.Core.Path.{_≡_, refl, subst}
 use mathlib.Core.Bool.{Bool, true, false, not, cond, _&&_}
 use mathlib.Core.List.{List, [], _∷_}
-use Prim.Native.Nat.{ℕ, _≤_, _<_, _+_, _%_, _^_}
+use Prim.Native.Nat.{ℕ, _≤_, _<_, _+_, _*_, _%_, _^_}
 use native.Mathlib.Nat.{mod-lt}
 use native.Mathlib.Omega.{arith}
 use lib.Dec.{T, leb, eqb, leb→le}
@@ -14,44 +14,54 @@ use Rattle.heads.proofs.Below.{upTo, below}
 use Rattle.heads.specs.Bits.{number}
 use Rattle.heads.specs.Judge.{refuseIf}
 use Rattle.heads.specs.Numbers.{Values, valuesOf}
-use Rattle.heads.specs.Adts.{adtsHead, adtsJudged, adtsFields, adtsRates, adtsChannels, adtsHeaderLength}
+use Rattle.heads.specs.Adts.{adtsHead, adtsJudged, adtsFields, adtsRates, adtsChannels, adtsHeaderLength, adtsHeaderOf, adtsReport, withHeader}
 use Rattle.heads.specs.Mpeg.{mpegHead, mpegJudged, mpegNamed, mpegFields, mpegKbps, mpegRate, mpegShape, layer3Shape, mpegChannels}
 use Rattle.heads.specs.Ac3.{ac3Judged, ac3Fields, ac3Words, ac3Kbps, ac3Rates, nfchans, codingModes, ac3TailWidths}
 use Rattle.heads.specs.Eac3.{eac3Judged, eac3Fields, fscodOf, eac3Rates, eac3Blocks, eac3TailWidths, fscod2Bits, numblkscodBits}
 use Rattle.heads.specs.A52.{a52Head, byBsid}
 use Rattle.heads.specs.Promise.{Range, _to_, Bounds, boundsOf, In, Within}
+use Rattle.heads.specs.declared.adts.AdtsHead.{AdtsHead}
 use Rattle.heads.specs.declared.fields.Ac3Fields.{Ac3Fields}
 use Rattle.heads.specs.declared.fields.Eac3Fields.{Eac3Fields}
 use Rattle.heads.specs.declared.syntax.AudioSyntax.the-variants.{Ac3, MpegAudio, AacAdts}
+use Rattle.heads.specs.declared.info.AudioFrameInfo.{AudioFrameInfo}
 use Rattle.heads.specs.declared.info.Head.{Head}
 use Rattle.heads.specs.declared.info.Head.the-variants.{Read, Refused}
 use Rattle.heads.specs.declared.info.Refusal.{Refusal}
 use Rattle.heads.specs.declared.info.Refusal.the-variants.{NoSyncWord, Unsupported}
 
+-- a claim about what a head that reads says
+abbrev Says : (AudioFrameInfo → Type 0) → Head → Type 0
+Says claim (Read i) = claim i
+Says claim (Refused ground) = Unit {0}
+
+refuse-says : (claim : AudioFrameInfo → Type 0) (t : Bool) (ground : Refusal) (rest : Head)
+    → (t ≡ false → Says claim rest) → Says claim (refuseIf t ground rest)
+unfolding refuseIf
+refuse-says claim true ground rest g = tt
+refuse-says claim false ground rest g = g refl
+
 -- a head that reads says numbers within those bounds
 abbrev pub Good : Bounds → Head → Type 0
-Good n (Read i) = Within n (valuesOf i)
-Good n (Refused ground) = Unit {0}
+Good n h = Says (λ i. Within n (valuesOf i)) h
 
 module _ (n : Bounds) where
   refuse-good : (t : Bool) (ground : Refusal) (rest : Head) → (t ≡ false → Good n rest)
       → Good n (refuseIf t ground rest)
-  unfolding refuseIf
-  refuse-good true ground rest g = tt
-  refuse-good false ground rest g = g refl
+  refuse-good = refuse-says (λ i. Within n (valuesOf i))
 
   cond-good : (t : Bool) (x y : Head) → (t ≡ true → Good n x) → (t ≡ false → Good n y) → Good n (cond t x y)
   cond-good true x y g k = g refl
   cond-good false x y g k = k refl
 
 -- ADTS
-header-least : (p : ℕ) → 7 ≤ adtsHeaderLength p
+header-range : (p n : ℕ) → n ≤ 3 → In (7 to 15) (adtsHeaderLength p n)
 unfolding adtsHeaderLength
-header-least p = go (eqb p 1)
+header-range p n h = go (eqb p 1)
   where
-    go : (t : Bool) → 7 ≤ cond t 7 9
-    go true = omega arith
-    go false = omega arith
+    go : (t : Bool) → In (7 to 15) (cond t 7 (7 + 2 * n + 2))
+    go true = record { above = omega arith; below = omega arith }
+    go false = record { above = omega arith; below = omega arith }
 
 pub adts-good : (b : List ℕ) → Good (boundsOf AacAdts) (adtsHead b)
 unfolding adtsHead adtsJudged boundsOf
@@ -67,8 +77,8 @@ adts-good b =
       length-in = record {
         above = omega (
           arith,
-          ltb-false (f .«frame_length») (adtsHeaderLength (f .«protection_absent»)) l,
-          header-least (f .«protection_absent»),
+          ltb-false (f .«frame_length») (adtsHeaderOf f) l,
+          header-range (f .«protection_absent») (f .«number_of_raw_data_blocks_in_frame») (omega arith) .above,
         );
         below = omega arith;
       };
@@ -81,6 +91,34 @@ adts-good b =
       channels-in = record { above = omega arith; below = most 8 adtsChannels (f .«channel_configuration») tt };
       bits-in = record { above = omega arith; below = omega arith };
     }
+
+-- the head's own length, where it is reported: 7 to 15 bytes, and no more than the frame has
+header-held : (b : List ℕ) → Says (λ i. adtsHeaderOf (adtsFields b) ≤ i .«frame_len») (adtsHead b)
+unfolding adtsHead adtsJudged
+header-held b =
+    let f = adtsFields b in
+    let held : AudioFrameInfo → Type 0 = λ i. adtsHeaderOf f ≤ i .«frame_len» in
+    refuse-says held _ _ _ λ _.
+    refuse-says held _ _ _ λ _.
+    refuse-says held _ _ _ λ _.
+    refuse-says held _ _ _ λ _.
+    refuse-says held _ _ _ λ l. ltb-false (f .«frame_length») (adtsHeaderOf f) l
+
+pub header-in : (b : List ℕ) (i : AudioFrameInfo) (n : ℕ) → adtsReport b ≡ AdtsHead.Read i n
+    → In (7 to 15) n × (n ≤ i .«frame_len»)
+unfolding adtsReport
+header-in b i n e =
+    let f = adtsFields b in
+    go (adtsHead b) (adtsHeaderOf f)
+    (header-range (f .«protection_absent») (f .«number_of_raw_data_blocks_in_frame») (omega arith)) (header-held b) e
+  where
+    go : (h : Head) (k : ℕ) → In (7 to 15) k → Says (λ j. k ≤ j .«frame_len») h
+        → withHeader h k ≡ AdtsHead.Read i n → In (7 to 15) n × (n ≤ i .«frame_len»)
+    go (Read j) k within held e =
+        let same : k ≡ n = cc in
+        let frame : j ≡ i = cc in
+        (subst (In (7 to 15)) same within, rw (same, frame) at held)
+    go (Refused ground) k within held e = absurd (let z : _≡_ {A = ℕ} 0 1 = cc in omega arith)
 
 -- MPEG: by a test of every head, of the 4096 that differ in what is judged
 abbrev inTest : ℕ → ℕ → ℕ → Bool

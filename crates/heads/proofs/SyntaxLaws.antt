@@ -1,12 +1,14 @@
 -- A head by its syntax, and by its code. Assumes nothing.
-use mathlib.Core.Path.{_≡_}
+use mathlib.Core.Path.{_≡_, _∙_, ap}
 use mathlib.Core.List.{List}
 use Prim.Native.Nat.{ℕ}
 use Rattle.heads.specs.A52.{a52Head}
 use Rattle.heads.specs.Mpeg.{mpegHead}
-use Rattle.heads.specs.Adts.{adtsHead}
+use Rattle.heads.specs.Adts.{adtsReport, withoutHeader}
 use Rattle.heads.specs.Syntax.{headOf, headOfCode, syntaxOf}
 use Rattle.heads.specs.Sync.{placeOf, syncPlace}
+use Rattle.heads.proofs.AdtsLaws.{without}
+use Rattle.heads.specs.declared.adts.AdtsHead.{AdtsHead}
 use Rattle.heads.specs.declared.syntax.AudioSyntax.{AudioSyntax}
 use Rattle.heads.specs.declared.syntax.AudioSyntax.the-variants.{Ac3, MpegAudio, AacAdts}
 use Rattle.heads.specs.declared.syntax.CodedSyntax.{CodedSyntax}
@@ -24,9 +26,9 @@ module _ (s : AudioSyntax) (b : List ℕ) (x : Head) where
   unfolding headOf
   as-mpeg e h = rw e h
 
-  pub as-adts : s ≡ AacAdts → x ≡ adtsHead b → x ≡ headOf s b
+  pub as-adts : s ≡ AacAdts → (r : AdtsHead) → r ≡ adtsReport b → x ≡ withoutHeader r → x ≡ headOf s b
   unfolding headOf
-  as-adts e h = rw e h
+  as-adts e r is h = rw e (h ∙ ap withoutHeader is ∙ without b)
 
 module _ (s : AudioSyntax) (b : List ℕ) (r : ℕ) where
   pub place-ac3 : s ≡ Ac3 → r ≡ placeOf 0x0B 0x77 0x77 b → r ≡ syncPlace s b

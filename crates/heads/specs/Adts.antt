@@ -7,8 +7,9 @@ use lib.Dec.{ltb, leb, eqb}
 use Rattle.heads.specs.Bits.{number, unpack}
 use Rattle.heads.specs.Judge.{refuseIf}
 use Rattle.heads.specs.declared.fields.AdtsFields.{AdtsFields}
+use Rattle.heads.specs.declared.adts.AdtsHead.{AdtsHead}
 use Rattle.heads.specs.declared.info.Head.{Head}
-use Rattle.heads.specs.declared.info.Head.the-variants.{Read}
+use Rattle.heads.specs.declared.info.Head.the-variants.{Read, Refused}
 use Rattle.heads.specs.declared.info.Refusal.the-variants.{ShortHead, NoSyncWord, Unsupported, ReservedCode, FrameLength}
 use Rattle.heads.specs.declared.info.AudioFrameKind.the-variants.{AacAdts}
 use Rattle.heads.specs.declared.info.BitRate.the-variants.{Absent}
@@ -84,9 +85,13 @@ adtsRates = 96000 ∷ 88200 ∷ 64000 ∷ 48000 ∷ 44100 ∷ 32000 ∷ 24000 �
 abbrev pub adtsChannels : List ℕ
 adtsChannels = 0 ∷ 1 ∷ 2 ∷ 3 ∷ (3 + 1) ∷ (3 + 2) ∷ (3 + 2 + 1) ∷ (5 + 2 + 1) ∷ []
 
--- the bytes of the head: 7, and two more for the CRC where protection_absent is 0
-unfoldable pub adtsHeaderLength : ℕ → ℕ
-adtsHeaderLength protection-absent = cond (eqb protection-absent 1) 7 (7 + 2)
+-- the bytes of the head: the seven of the two tables; where protection_absent is 0, adts_header_error_check follows, in
+-- which 16 bits of raw_data_block_position for each raw block after the first stand before the 16 of crc_check
+unfoldable pub adtsHeaderLength : ℕ → ℕ → ℕ
+adtsHeaderLength protection-absent further-blocks = cond (eqb protection-absent 1) 7 (7 + 2 * further-blocks + 2)
+
+abbrev pub adtsHeaderOf : AdtsFields → ℕ
+adtsHeaderOf f = adtsHeaderLength (f .«protection_absent») (f .«number_of_raw_data_blocks_in_frame»)
 
 -- what the fields say, by a table of rates: 2, 3, 4, 6; 1024 samples for each raw block
 unfoldable pub adtsJudged : List ℕ → AdtsFields → Head
@@ -94,7 +99,7 @@ adtsJudged rates f =
     refuseIf (not (eqb (f .syncword) 0xFFF)) NoSyncWord
     (refuseIf (not (eqb (f .layer) 0)) Unsupported
     (refuseIf (leb (length rates) (f .«sampling_frequency_index»)) ReservedCode
-    (refuseIf (ltb (f .«frame_length») (adtsHeaderLength (f .«protection_absent»))) FrameLength
+    (refuseIf (ltb (f .«frame_length») (adtsHeaderOf f)) FrameLength
     (Read
     (record {
       kind = AacAdts;
@@ -108,3 +113,16 @@ adtsJudged rates f =
 -- 1 before all of them
 unfoldable pub adtsHead : List ℕ → Head
 adtsHead b = refuseIf (ltb (length b) 7) ShortHead (adtsJudged adtsRates (adtsFields b))
+
+-- what the reader reports: beside what the head says of its frame, the head's own length (document 02, K3)
+abbrev pub withHeader : Head → ℕ → AdtsHead
+withHeader (Read i) n = AdtsHead.Read i n
+withHeader (Refused ground) n = AdtsHead.Refused ground
+
+unfoldable pub adtsReport : List ℕ → AdtsHead
+adtsReport b = withHeader (adtsHead b) (adtsHeaderOf (adtsFields b))
+
+-- and without it, as the other syntaxes report
+abbrev pub withoutHeader : AdtsHead → Head
+withoutHeader (AdtsHead.Read i n) = Read i
+withoutHeader (AdtsHead.Refused ground) = Refused ground

@@ -17,3 +17,4 @@ pub mod Write
 pub mod Placing
 pub mod WriteCases
 pub mod Order
+pub mod HeaderLengths

@@ -2,7 +2,7 @@
 -- of a head, its number and its values, which the record for C, the front of a row and the line of a program are made
 -- from.
 use Prim.Native.Nat.{ℕ}
-use mathlib.Core.List.{List, [], _∷_}
+use mathlib.Core.List.{List, [], _∷_, _++_}
 use Rattle.heads.specs.declared.info.AudioFrameInfo.{AudioFrameInfo}
 use Rattle.heads.specs.declared.info.AudioFrameKind.{AudioFrameKind}
 use Rattle.heads.specs.declared.info.AudioFrameKind.the-variants.{Ac3, Eac3, MpegLayer1, MpegLayer2, MpegLayer3, AacAdts}
@@ -10,6 +10,7 @@ use Rattle.heads.specs.declared.info.BitRate.{BitRate}
 use Rattle.heads.specs.declared.info.BitRate.the-variants.{Coded, Absent}
 use Rattle.heads.specs.declared.info.Refusal.{Refusal}
 use Rattle.heads.specs.declared.info.Refusal.the-variants.{ShortHead, NoSyncWord, Unsupported, ReservedCode, BitRateIndex, FrameLength, SyntaxCode}
+use Rattle.heads.specs.declared.adts.AdtsHead.{AdtsHead}
 use Rattle.heads.specs.declared.write.WriteAnswer.{WriteAnswer}
 use Rattle.heads.specs.declared.write.WriteAnswer.the-variants.{Written}
 use Rattle.heads.specs.declared.write.WriteRefusal.{WriteRefusal}
@@ -86,3 +87,8 @@ pub record HeadAnswer : Type 0 where
 abbrev pub headAnswer : Head → HeadAnswer
 headAnswer (Read i) = record { number = 0; values = inOrder (valuesOf i) }
 headAnswer (Refused ground) = record { number = refusalNumber ground; values = [] }
+
+-- of an ADTS head that is read with its own length, this number behind the six (document 02, K3)
+abbrev pub adtsAnswer : AdtsHead → HeadAnswer
+adtsAnswer (AdtsHead.Read i n) = record { number = 0; values = inOrder (valuesOf i) ++ (n ∷ []) }
+adtsAnswer (AdtsHead.Refused ground) = record { number = refusalNumber ground; values = [] }

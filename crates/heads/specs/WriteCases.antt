@@ -67,6 +67,9 @@ writtenHeads =
     (0xFF ∷ 0xF1 ∷ 0x50 ∷ 0x83 ∷ 0xFF ∷ 0xE0 ∷ 0x00 ∷ [])
     ∷ stands (adtsList (0xFFF ∷ 1 ∷ 0 ∷ 1 ∷ 3 ∷ 11 ∷ 1 ∷ 7 ∷ 1 ∷ 0 ∷ 1 ∷ 0 ∷ 4660 ∷ 1445 ∷ 3 ∷ []))
     (0xFF ∷ 0xF9 ∷ 0xEF ∷ 0xEA ∷ 0x46 ∷ 0x96 ∷ 0x97 ∷ [])
+    -- with CRC and one further block, all head (document 02, K3)
+    ∷ stands (adtsList (0xFFF ∷ 0 ∷ 0 ∷ 0 ∷ 1 ∷ 4 ∷ 0 ∷ 2 ∷ 0 ∷ 0 ∷ 0 ∷ 0 ∷ 11 ∷ 0 ∷ 1 ∷ []))
+    (0xFF ∷ 0xF0 ∷ 0x50 ∷ 0x80 ∷ 0x01 ∷ 0x60 ∷ 0x01 ∷ [])
     ∷ []
 
 -- ---- heads that are not
@@ -134,6 +137,13 @@ leftOut =
     ∷ refused (h3 3 1 3 16) 6 0 13
     ∷ []
 
+-- with CRC, a frame shorter than its head: of one block, and of four (document 02, K3)
+abbrev crc : ℕ → ℕ → Draft
+crc len blocks = adtsList (0xFFF ∷ 0 ∷ 0 ∷ 0 ∷ 1 ∷ 4 ∷ 0 ∷ 2 ∷ 0 ∷ 0 ∷ 0 ∷ 0 ∷ len ∷ 0 ∷ blocks ∷ [])
+
+abbrev shorter : List Write
+shorter = refused (crc 8 0) 7 0 6 ∷ refused (crc 10 1) 7 0 6 ∷ refused (crc 14 3) 7 0 6 ∷ []
+
 -- as many numbers as fields: one too few, one too many, none
 abbrev counts : List Write
 counts =
@@ -157,4 +167,4 @@ places =
 
 -- all of it
 unfoldable pub writeCases : List Write
-writeCases = writtenHeads ++ order ++ bsids ++ leftOut ++ counts ++ places
+writeCases = writtenHeads ++ order ++ bsids ++ leftOut ++ shorter ++ counts ++ places

@@ -15,6 +15,7 @@ mod tape;
 mod write;
 
 pub use ac3::parse_ac3_frame;
+pub use adts::AdtsHead;
 pub use adts::parse_adts_header;
 pub use chart::mpeg_bit_rate;
 pub use chart::mpeg_chart;

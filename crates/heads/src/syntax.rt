@@ -47,7 +47,7 @@ impl AudioSyntax {
         match self {
             AudioSyntax::Ac3 => parse_ac3_frame(b),
             AudioSyntax::MpegAudio => parse_mpeg_audio_header(b),
-            AudioSyntax::AacAdts => parse_adts_header(b),
+            AudioSyntax::AacAdts => parse_adts_header(b).head(),
         }
     }
 

@@ -13,11 +13,16 @@ pub fn kinds(code: u32) -> &'static [u32] {
     }
 }
 
-/// A frame of that kind. Most are short, so that lines stay short.
-pub fn frame(kind: u32, random: &mut Random) -> Vec<u8> {
+/// One in so many that there is none.
+pub const NEVER: u64 = u64::MAX;
+
+/// A frame of that kind. Most are short, so that lines stay short. Of the short ones of ADTS one in
+/// `outside` has a head outside the domain of equality: the unchanged Rust reads it, and gives as
+/// many bytes as it says, which are fewer than its head has.
+pub fn frame(kind: u32, outside: u64, random: &mut Random) -> Vec<u8> {
     let head = match random.below(32) {
         0 => samples::good(kind, random),
-        _ => short_head(kind, random),
+        _ => short_head(kind, outside, random),
     };
     filled(kind, head, random)
 }
@@ -35,7 +40,7 @@ pub fn filled(kind: u32, head: Bytes, random: &mut Random) -> Vec<u8> {
 
 /// A head of that kind whose frame is one of the shortest. Some of E-AC-3's frames are then shorter
 /// than a head.
-fn short_head(kind: u32, random: &mut Random) -> Bytes {
+fn short_head(kind: u32, outside: u64, random: &mut Random) -> Bytes {
     let head = samples::good(kind, random);
     match kind {
         1 => samples::with_fields(head, &[(34, 6, random.below(4))]),
@@ -44,13 +49,23 @@ fn short_head(kind: u32, random: &mut Random) -> Bytes {
             samples::with_fields(head, &[(21, 11, random.below(most))])
         }
         3..=5 => samples::with_fields(head, &[(16, 4, 1 + random.below(2))]),
+        _ if random.below(outside) == 0 => {
+            let blocks = 1 + random.below(3);
+            samples::with_fields(head, &adts(0, 9 + random.below(2 * blocks), blocks))
+        }
         _ => {
-            let below = random.pick(&[1, 3, 9, 60, 400]);
-            let length = 7 + random.below(below);
-            let without_crc = if length < 9 { 1 } else { random.below(2) };
-            samples::with_fields(head, &[(15, 1, without_crc), (30, 13, length)])
+            let (without_crc, blocks) = (random.below(2), random.below(4));
+            // Often just as long as the head, or a byte longer.
+            let least = if without_crc == 1 { 7 } else { 9 + 2 * blocks };
+            let more = random.pick(&[1, 3, 9, 60, 400]);
+            samples::with_fields(head, &adts(without_crc, least + random.below(more), blocks))
         }
     }
+}
+
+/// The fields protection_absent, frame_length and the further blocks of an ADTS head.
+fn adts(without_crc: u64, length: u64, blocks: u64) -> [(u32, u32, u64); 3] {
+    [(15, 1, without_crc), (30, 13, length), (54, 2, blocks)]
 }
 
 /// Bytes inside a frame: one byte throughout, any bytes, or such as begin heads.

@@ -166,7 +166,7 @@ pub fn code_of(kind: u32) -> u32 {
     }
 }
 
-/// A head of that kind that reads, its fields and all other bits by chance.
+/// A head of that kind that the unchanged Rust reads, its fields and all other bits by chance.
 pub fn good(kind: u32, random: &mut Random) -> Bytes {
     let rest = random.bytes();
     match kind {

@@ -1,7 +1,7 @@
 //! Streams: frame after frame, the same with damage, pieces of frames in any order, and frames with
 //! much between them that is none.
 
-use crate::frames::{filled, frame, kinds, likely};
+use crate::frames::{filled, frame, kinds, likely, NEVER};
 use crate::random::Random;
 use crate::samples;
 
@@ -15,25 +15,32 @@ pub enum Sort {
     AnyBytes,
 }
 
-/// A stream of that sort, some hundred bytes long.
+/// A stream of that sort, some hundred bytes long. Of code 2 one frame in ten or so is outside the
+/// domain of equality, but none in many of the streams, so that these are inside to their end.
 pub fn stream(sort: Sort, code: u32, random: &mut Random) -> Vec<u8> {
+    let outside = random.pick(&[5, 15, NEVER]);
+    stream_with(sort, code, outside, random)
+}
+
+/// The same; one short ADTS frame in `outside` is outside the domain.
+pub fn stream_with(sort: Sort, code: u32, outside: u64, random: &mut Random) -> Vec<u8> {
     match sort {
-        Sort::Whole => whole(code, random),
-        Sort::Damaged => damaged(code, random),
-        Sort::Pieces => pieces(code, random),
-        Sort::Sparse => sparse(code, random),
+        Sort::Whole => whole(code, outside, random),
+        Sort::Damaged => damaged(code, outside, random),
+        Sort::Pieces => pieces(code, outside, random),
+        Sort::Sparse => sparse(code, outside, random),
         Sort::AnyBytes => any_bytes(code, random),
     }
 }
 
 /// Whole frames: of one geometry, of two joined, or of one for each frame.
-fn whole(code: u32, random: &mut Random) -> Vec<u8> {
+fn whole(code: u32, outside: u64, random: &mut Random) -> Vec<u8> {
     let mut bytes = Vec::new();
     for _ in 0..=random.below(3) {
         let kind = random.pick(kinds(code));
-        let first = frame(kind, random);
+        let first = frame(kind, outside, random);
         for _ in 0..random.below(6) {
-            bytes.extend(another(kind, &first, random));
+            bytes.extend(another(kind, &first, outside, random));
         }
         bytes.extend(first);
     }
@@ -41,25 +48,25 @@ fn whole(code: u32, random: &mut Random) -> Vec<u8> {
 }
 
 /// A frame with the head of `first`, or sometimes one of the same kind.
-fn another(kind: u32, first: &[u8], random: &mut Random) -> Vec<u8> {
+fn another(kind: u32, first: &[u8], outside: u64, random: &mut Random) -> Vec<u8> {
     match (first.first_chunk::<16>(), random.below(8)) {
-        (_, 0) => frame(kind, random),
+        (_, 0) => frame(kind, outside, random),
         (Some(start), 1..=5) => filled(kind, *start, random),
         _ => first.to_vec(),
     }
 }
 
 /// A stream, or two spliced, with a few places changed.
-fn damaged(code: u32, random: &mut Random) -> Vec<u8> {
-    let mut bytes = whole(code, random);
+fn damaged(code: u32, outside: u64, random: &mut Random) -> Vec<u8> {
+    let mut bytes = whole(code, outside, random);
     for _ in 0..=random.below(3) {
-        damage(&mut bytes, code, random);
+        damage(&mut bytes, code, outside, random);
     }
     bytes
 }
 
 /// Flips a bit, drops bytes, puts bytes in, or goes on with another stream.
-fn damage(bytes: &mut Vec<u8>, code: u32, random: &mut Random) {
+fn damage(bytes: &mut Vec<u8>, code: u32, outside: u64, random: &mut Random) {
     // Among the first bytes as often as anywhere: that is where heads stand.
     let within = if random.below(2) == 0 { bytes.len().min(24) } else { bytes.len() };
     let place = random.below(within as u64 + 1) as usize;
@@ -74,24 +81,24 @@ fn damage(bytes: &mut Vec<u8>, code: u32, random: &mut Random) {
             bytes.drain(place..end);
         }
         3 => {
-            let piece = piece(code, random);
+            let piece = piece(code, outside, random);
             bytes.splice(place..place, piece);
         }
         _ => {
             bytes.truncate(place);
-            bytes.extend(whole(code, random));
+            bytes.extend(whole(code, outside, random));
         }
     }
 }
 
 /// Pieces of frames, sync words, zeros and whole frames, in any order.
-fn pieces(code: u32, random: &mut Random) -> Vec<u8> {
-    (0..=random.below(8)).flat_map(|_| piece(code, random)).collect()
+fn pieces(code: u32, outside: u64, random: &mut Random) -> Vec<u8> {
+    (0..=random.below(8)).flat_map(|_| piece(code, outside, random)).collect()
 }
 
-fn piece(code: u32, random: &mut Random) -> Vec<u8> {
+fn piece(code: u32, outside: u64, random: &mut Random) -> Vec<u8> {
     let kind = random.pick(kinds(code));
-    let mut bytes = frame(kind, random);
+    let mut bytes = frame(kind, outside, random);
     match random.below(8) {
         0..=2 => {}
         3 => bytes.truncate(1 + random.below(10) as usize),
@@ -104,7 +111,7 @@ fn piece(code: u32, random: &mut Random) -> Vec<u8> {
 }
 
 /// Frames far apart. In front, half the time, a head whose frame would reach over the first of them.
-fn sparse(code: u32, random: &mut Random) -> Vec<u8> {
+fn sparse(code: u32, outside: u64, random: &mut Random) -> Vec<u8> {
     let kind = random.pick(kinds(code));
     let mut bytes = Vec::new();
     if random.below(2) == 0 {
@@ -112,7 +119,7 @@ fn sparse(code: u32, random: &mut Random) -> Vec<u8> {
     }
     for _ in 0..=random.below(2) {
         bytes.extend(gap(code, random));
-        (0..random.below(3)).for_each(|_| bytes.extend(frame(kind, random)));
+        (0..random.below(3)).for_each(|_| bytes.extend(frame(kind, outside, random)));
     }
     bytes
 }

@@ -1,7 +1,9 @@
 //! Document 01's own cases and the answers that it gives: H1 to H9, D1, frame F and the small
-//! inputs of its number table; and heads written from their fields, worked out by hand.
+//! inputs of its number table; and, worked out by hand, K3's heads, the bytes that ADTS heads have, and
+//! heads written from their fields.
 
 use crate::library::Answer;
+use crate::reference;
 use crate::writes::Table::{self, Ac3, Adts, Eac3, Mpeg};
 
 /// Stands for a number that the document does not give. No field of a head can be that large.
@@ -33,9 +35,9 @@ const fn case(name: &'static str, code: u32, head: &'static [u8], says: Answer) 
     Case { name, code, head, says }
 }
 
-/// All heads of the document: its corners, then its number table.
+/// All heads: document 01's corners, its number table, then K3's.
 pub fn heads() -> impl Iterator<Item = &'static Case> {
-    CORNERS.iter().chain(&NUMBERS)
+    CORNERS.iter().chain(&NUMBERS).chain(&K3)
 }
 
 #[rustfmt::skip]
@@ -69,6 +71,109 @@ pub static NUMBERS: [Case; 8] = [
     case("number 7, a head that code 2 reads", 3, &[0xFF, 0xF1, 0x50, 0x80, 0x00, 0xE0, 0x00], Err(7)),
 ];
 
+/// K3: with CRC (byte 1 is F0, or F8 by its ID) a head has 9, 11, 13 or 15 bytes for the n of 0 to 3 in
+/// the last two bits of byte 6, without it (F1) 7. frame_length is 8 × byte 4 + the top three bits of
+/// byte 5, so 9 is 01 20, 10 is 01 40 and so on up to 15, 01 E0. A block has 1024 samples.
+#[rustfmt::skip]
+pub static K3: [Case; 14] = [
+    case("K3, 8 < 9", 2, &[0xFF, 0xF0, 0x50, 0x80, 0x01, 0x00, 0x00], Err(6)),
+    case("K3, 10 < 11", 2, &[0xFF, 0xF0, 0x50, 0x80, 0x01, 0x40, 0x01], Err(6)),
+    case("K3, 11", 2, &[0xFF, 0xF0, 0x50, 0x80, 0x01, 0x60, 0x01], Ok([6, 11, 2048, 44100, 2, 0])),
+    case("K3, 9 < 13", 2, &[0xFF, 0xF8, 0x50, 0x80, 0x01, 0x20, 0x02], Err(6)),
+    case("K3, 12 < 13", 2, &[0xFF, 0xF0, 0x50, 0x80, 0x01, 0x9F, 0xFE], Err(6)),
+    case("K3, 13", 2, &[0xFF, 0xF8, 0x50, 0x80, 0x01, 0xBF, 0xFE], Ok([6, 13, 3072, 44100, 2, 0])),
+    case("K3, 14 < 15", 2, &[0xFF, 0xF8, 0x50, 0x80, 0x01, 0xC0, 0x03], Err(6)),
+    case("K3, 15", 2, &[0xFF, 0xF0, 0x50, 0x80, 0x01, 0xE0, 0x03], Ok([6, 15, 4096, 44100, 2, 0])),
+    case("K3, 7 without CRC", 2, &[0xFF, 0xF1, 0x50, 0x80, 0x00, 0xE0, 0x03], Ok([6, 7, 4096, 44100, 2, 0])),
+    case("K3, 6 without CRC", 2, &[0xFF, 0xF1, 0x50, 0x80, 0x00, 0xC0, 0x03], Err(6)),
+    // The numbers before 6, at 9 < 11: six bytes, the top bit of byte 1 a 0, layer 1, rate index 12.
+    case("K3, number 1", 2, &[0xFF, 0xF0, 0x50, 0x80, 0x01, 0x20], Err(1)),
+    case("K3, number 2", 2, &[0xFF, 0x70, 0x50, 0x80, 0x01, 0x20, 0x01], Err(2)),
+    case("K3, number 3", 2, &[0xFF, 0xF2, 0x50, 0x80, 0x01, 0x20, 0x01], Err(3)),
+    case("K3, number 4", 2, &[0xFF, 0xF0, 0x70, 0x80, 0x01, 0x20, 0x01], Err(4)),
+];
+
+/// How many bytes an ADTS head has, or the number that refuses it.
+pub struct HeadLength {
+    pub head: &'static [u8],
+    pub says: Result<u64, u32>,
+}
+
+const fn has(head: &'static [u8], length: u64) -> HeadLength {
+    HeadLength { head, says: Ok(length) }
+}
+
+const fn has_none(head: &'static [u8], number: u32) -> HeadLength {
+    HeadLength { head, says: Err(number) }
+}
+
+/// The heads of H8, H9, F and [`K3`] again, and their neighbours.
+#[rustfmt::skip]
+pub static HEAD_LENGTHS: [HeadLength; 38] = [
+    // 7 without CRC, however many blocks and bytes the frame has (F, three blocks more, 8191 bytes), and
+    // whatever stands behind the head.
+    has(&[0xFF, 0xF1, 0x50, 0x80, 0x00, 0xE0, 0x00], 7),
+    has(&[0xFF, 0xF9, 0x50, 0x80, 0x00, 0xE0, 0x01], 7),
+    has(&[0xFF, 0xF1, 0x50, 0x80, 0x00, 0xE0, 0x02], 7),
+    has(&[0xFF, 0xF1, 0x50, 0x80, 0x01, 0x00, 0x03], 7),
+    has(&[0xFF, 0xF1, 0x50, 0x83, 0xFF, 0xE0, 0x00], 7),
+    has(&[0xFF, 0xF1, 0x50, 0x80, 0x00, 0xFF, 0xFF, 0xFF], 7),
+    // H8, 9 with CRC and no further block: frames of 9, 10 and 8191 bytes.
+    has(&[0xFF, 0xF0, 0x50, 0x80, 0x01, 0x20, 0x00], 9),
+    has(&[0xFF, 0xF8, 0x50, 0x80, 0x01, 0x5F, 0xFC], 9),
+    has(&[0xFF, 0xF0, 0x50, 0x83, 0xFF, 0xE0, 0x00], 9),
+    // 9 + 2 × 1 = 11: frames of 11, 12 and 2048 bytes.
+    has(&[0xFF, 0xF0, 0x50, 0x80, 0x01, 0x60, 0x01], 11),
+    has(&[0xFF, 0xF8, 0x50, 0x80, 0x01, 0x9F, 0xFD], 11),
+    has(&[0xFF, 0xF0, 0x50, 0x81, 0x00, 0x00, 0x01], 11),
+    // 9 + 2 × 2 = 13: frames of 13, 14 and 256 bytes.
+    has(&[0xFF, 0xF8, 0x50, 0x80, 0x01, 0xA0, 0x02], 13),
+    has(&[0xFF, 0xF0, 0x50, 0x80, 0x01, 0xDF, 0xFE], 13),
+    has(&[0xFF, 0xF0, 0x50, 0x80, 0x20, 0x00, 0x02], 13),
+    // 9 + 2 × 3 = 15: frames of 15, 16 and 8191 bytes; the last two bits of byte 6 alone are n.
+    has(&[0xFF, 0xF0, 0x50, 0x80, 0x01, 0xE0, 0x03], 15),
+    has(&[0xFF, 0xF8, 0x50, 0x80, 0x02, 0x1F, 0xFF], 15),
+    has(&[0xFF, 0xF0, 0xEF, 0xFF, 0xFF, 0xFF, 0xFF, 0x00], 15),
+    // Too short a head, none at all among them: 1, whatever else would refuse it.
+    has_none(&[], 1),
+    has_none(&[0xFF], 1),
+    has_none(&[0xFF, 0xF0, 0x50, 0x80, 0x01, 0x60], 1),
+    has_none(&[0x00, 0x00, 0x00, 0x00, 0x00, 0x00], 1),
+    // No sync word: 2, before layer, rate and length.
+    has_none(&[0xFE, 0xF0, 0x50, 0x80, 0x01, 0x60, 0x01], 2),
+    has_none(&[0xFF, 0xE0, 0x50, 0x80, 0x01, 0x60, 0x01], 2),
+    has_none(&[0x0B, 0x77, 0x7C, 0x00, 0x00, 0x00, 0x00], 2),
+    // A layer: 3, before rate and length.
+    has_none(&[0xFF, 0xF2, 0x50, 0x80, 0x01, 0x60, 0x01], 3),
+    has_none(&[0xFF, 0xF6, 0x70, 0x80, 0x01, 0x20, 0x01], 3),
+    // Rate index 12 and 15: 4, before the length.
+    has_none(&[0xFF, 0xF0, 0x70, 0x80, 0x01, 0x60, 0x01], 4),
+    has_none(&[0xFF, 0xF0, 0x7C, 0x80, 0x01, 0x40, 0x01], 4),
+    // 0 and 6 < 7, 8 < 9, 9 and 10 < 11, 11 and 12 < 13, 13 and 14 < 15: 6.
+    has_none(&[0xFF, 0xF1, 0x50, 0x80, 0x00, 0x00, 0x00], 6),
+    has_none(&[0xFF, 0xF1, 0x50, 0x80, 0x00, 0xC0, 0x03], 6),
+    has_none(&[0xFF, 0xF0, 0x50, 0x80, 0x01, 0x00, 0x00], 6),
+    has_none(&[0xFF, 0xF0, 0x50, 0x80, 0x01, 0x20, 0x01], 6),
+    has_none(&[0xFF, 0xF8, 0x50, 0x80, 0x01, 0x5F, 0xFD], 6),
+    has_none(&[0xFF, 0xF8, 0x50, 0x80, 0x01, 0x60, 0x02], 6),
+    has_none(&[0xFF, 0xF0, 0x50, 0x80, 0x01, 0x80, 0x02, 0xFF], 6),
+    has_none(&[0xFF, 0xF0, 0x50, 0x80, 0x01, 0xBF, 0xFF], 6),
+    has_none(&[0xFF, 0xF8, 0x50, 0x80, 0x01, 0xC0, 0x03], 6),
+];
+
+/// Holds the references to [`HEAD_LENGTHS`]: the libraries do not say how long a head is, so that no
+/// other comparison does. An error says at which they fail.
+pub fn check_head_lengths() -> Result<(), String> {
+    for HeadLength { head, says } in &HEAD_LENGTHS {
+        let at = |what| format!("bytes of the head {head:02X?}: {what}");
+        let answer = reference::head_length(head).map_err(at)?.answer;
+        if answer != *says {
+            return Err(at(format!("by hand {says:?}, here {answer:?}")));
+        }
+    }
+    Ok(())
+}
+
 pub static DURATIONS: [Duration; 2] = [
     Duration { name: "D1", samples: 65536, rate: 1, says: 1_603_272_704 },
     Duration { name: "D1, 0 Hz", samples: 65536, rate: 0, says: 0 },
@@ -95,9 +200,9 @@ const fn refused(table: Table, fields: &'static [u32], room: usize, at: u64, say
 }
 
 /// Document 01's heads from their fields; then the order of the refusals (13, 12, the reader's own),
-/// bsid, fields that are left out, and places.
+/// bsid, fields that are left out, and places; at last K3's heads.
 #[rustfmt::skip]
-pub static WRITES: [Write; 47] = [
+pub static WRITES: [Write; 63] = [
     written(Ac3, &[0x0B77, 0, 0, 0, 8, 0, 2, 0, 0, 0, 0], &[0x0B, 0x77, 0x00, 0x00, 0x00, 0x40, 0x40]),
     written(Ac3, &[0x0B77, 0, 0, 0, 8, 0, 2, 0, 0, 0, 1], &[0x0B, 0x77, 0x00, 0x00, 0x00, 0x40, 0x44]),
     written(Ac3, &[0x0B77, 0, 1, 30, 8, 0, 7, 0, 0, 0, 1], &[0x0B, 0x77, 0x00, 0x00, 0x5E, 0x40, 0xE1]),
@@ -145,4 +250,22 @@ pub static WRITES: [Write; 47] = [
     refused(Ac3, &[0x0B77, 0, 0, 0, 8, 0, 2, 0, 0, 0, 0], 8, 9, 12),
     refused(Mpeg, &[0xFFF, 1, 1, 1, 9, 0, 0, 0, 3, 0, 0, 0, 0], 4, u64::MAX - 3, 12),
     refused(Mpeg, &[0xFFF, 1, 1, 1, 9, 0, 0, 0, 3, 0, 0, 0, 0], 4, u64::MAX, 12),
+    // With CRC (the fourth field 0) and n further blocks (the last) 9 + 2 × n bytes are the least.
+    written(Adts, &[0xFFF, 0, 0, 0, 1, 4, 0, 2, 0, 0, 0, 0, 11, 0, 1], &[0xFF, 0xF0, 0x50, 0x80, 0x01, 0x60, 0x01]),
+    written(Adts, &[0xFFF, 1, 0, 0, 1, 4, 0, 2, 0, 0, 0, 0, 13, 2047, 2], &[0xFF, 0xF8, 0x50, 0x80, 0x01, 0xBF, 0xFE]),
+    written(Adts, &[0xFFF, 0, 0, 0, 1, 4, 0, 2, 0, 0, 0, 0, 15, 0, 3], &[0xFF, 0xF0, 0x50, 0x80, 0x01, 0xE0, 0x03]),
+    written(Adts, &[0xFFF, 0, 0, 1, 1, 4, 0, 2, 0, 0, 0, 0, 7, 0, 3], &[0xFF, 0xF1, 0x50, 0x80, 0x00, 0xE0, 0x03]),
+    refused(Adts, &[0xFFF, 0, 0, 0, 1, 4, 0, 2, 0, 0, 0, 0, 8, 0, 0], 10, 3, 6),
+    refused(Adts, &[0xFFF, 0, 0, 0, 1, 4, 0, 2, 0, 0, 0, 0, 9, 0, 1], 10, 3, 6),
+    refused(Adts, &[0xFFF, 0, 0, 0, 1, 4, 0, 2, 0, 0, 0, 0, 10, 2047, 1], 10, 3, 6),
+    refused(Adts, &[0xFFF, 1, 0, 0, 1, 4, 0, 2, 0, 0, 0, 0, 11, 0, 2], 10, 3, 6),
+    refused(Adts, &[0xFFF, 0, 0, 0, 1, 4, 0, 2, 0, 0, 0, 0, 12, 0, 2], 10, 3, 6),
+    refused(Adts, &[0xFFF, 0, 0, 0, 1, 4, 0, 2, 0, 0, 0, 0, 13, 0, 3], 10, 3, 6),
+    refused(Adts, &[0xFFF, 1, 0, 0, 1, 4, 0, 2, 0, 0, 0, 0, 14, 2047, 3], 10, 3, 6),
+    // 13, 12, 2, 3 and 4 come before 6.
+    refused(Adts, &[0xFFF, 0, 0, 0, 1, 4, 0, 2, 0, 0, 0, 0, 9, 0, 4], 10, 3, 13),
+    refused(Adts, &[0xFFF, 0, 0, 0, 1, 4, 0, 2, 0, 0, 0, 0, 9, 0, 1], 9, 3, 12),
+    refused(Adts, &[0xFFE, 0, 0, 0, 1, 4, 0, 2, 0, 0, 0, 0, 9, 0, 1], 10, 3, 2),
+    refused(Adts, &[0xFFF, 0, 1, 0, 1, 12, 0, 2, 0, 0, 0, 0, 9, 0, 1], 10, 3, 3),
+    refused(Adts, &[0xFFF, 0, 0, 0, 1, 12, 0, 2, 0, 0, 0, 0, 9, 0, 1], 10, 3, 4),
 ];

@@ -1,8 +1,7 @@
 //! The lines that the program `head` is asked, and the answers that it must give.
 
-use crate::reference;
+use crate::reference::{self, Expected, Side};
 use crate::writes::{Fields, Table};
-use oracle::answers;
 
 /// The most bytes that a line may give, and the longest tape that it may ask for.
 pub const MOST_BYTES: usize = 128;
@@ -15,6 +14,8 @@ pub enum Line {
     Head(u32, Vec<u8>),
     /// What an MPEG audio head says by the chart: the head's bytes.
     Chart(Vec<u8>),
+    /// How many bytes an ADTS head has: the head's bytes.
+    HeadLength(Vec<u8>),
     /// Where a head can begin: a syntax code and the bytes to search.
     Skip(u32, Vec<u8>),
     /// The ticks of so many samples at that rate.
@@ -31,6 +32,7 @@ impl Line {
         match self {
             Line::Head(code, bytes) => with_bytes(code.to_string(), bytes),
             Line::Chart(bytes) => with_bytes("m".into(), bytes),
+            Line::HeadLength(bytes) => with_bytes("h".into(), bytes),
             Line::Skip(code, bytes) => with_bytes(format!("s {code}"), bytes),
             Line::Duration(samples, rate) => format!("d {samples} {rate}").into(),
             Line::Write(table, fields, at, room) => {
@@ -41,32 +43,51 @@ impl Line {
         }
     }
 
-    /// The answer that it must get, without its line feed. An error says that the references
-    /// contradict each other.
-    pub fn answer(&self) -> Result<String, String> {
-        match self {
-            Line::Head(code, head) => says(*code, head),
-            Line::Chart(head) => says(1, head),
+    /// The answer that it must get. An error says that the references contradict each other.
+    pub fn answer(&self) -> Result<Reply, String> {
+        Ok(match self {
+            Line::Head(code, head) => said(reference::head(*code, head)?, spaced),
+            Line::Chart(head) => said(reference::head(1, head)?, spaced),
+            Line::HeadLength(head) => said(reference::head_length(head)?, |n| n.to_string()),
             Line::Skip(code, bytes) => {
-                Ok(reference::place(*code, bytes)?.map_or_else(refused, |place| place.to_string()))
+                let place = reference::place(*code, bytes)?;
+                Reply::plain(place.map_or_else(refused, |place| place.to_string()))
             }
-            Line::Duration(samples, rate) => Ok(answers::duration_90k(*samples, *rate).to_string()),
+            Line::Duration(samples, rate) => {
+                Reply::plain(reference::duration(*samples, *rate)?.to_string())
+            }
             Line::Write(table, fields, at, room) => {
                 let mut tape = [BLANK; MOST_BYTES];
                 let tape = &mut tape[..*room];
-                Ok(table.write(fields, tape, *at)?.map_or_else(refused, |()| octets(tape)))
+                said(table.write(fields, tape, *at)?, |()| octets(tape))
             }
-            Line::Malformed(..) => Ok("?".into()),
-        }
+            Line::Malformed(..) => Reply::plain("?".into()),
+        })
     }
 }
 
-/// What a head says.
-fn says(code: u32, head: &[u8]) -> Result<String, String> {
-    Ok(match reference::answer(code, head)? {
-        Ok(six) => six.map(|number| number.to_string()).join(" "),
-        Err(number) => refused(number),
-    })
+/// The answer to a line.
+pub struct Reply {
+    /// Without its line feed.
+    pub text: String,
+    /// Which modules gave it, where it is about a head that they were asked to read.
+    pub side: Option<Side>,
+}
+
+impl Reply {
+    fn plain(text: String) -> Reply {
+        Reply { text, side: None }
+    }
+}
+
+/// What is expected, in words, or that it is refused.
+fn said<T>(expected: Expected<T>, words: impl FnOnce(T) -> String) -> Reply {
+    Reply { text: expected.answer.map_or_else(refused, words), side: expected.side }
+}
+
+/// The six numbers of a head.
+fn spaced(six: [u32; 6]) -> String {
+    six.map(|number| number.to_string()).join(" ")
 }
 
 fn refused(number: u32) -> String {

@@ -1,5 +1,6 @@
-//! The numbers that refuse a call: a second definition, written from document 01's table and from
-//! the sentence below it that gives their order. It asks neither the library nor the oracle.
+//! The numbers that refuse a call: a second definition, written from document 01's table, from the
+//! sentence below it that gives their order, and from document 02's K3. It asks neither the library
+//! nor the oracle.
 
 /// The number that refuses a call of `audio_frame_head` whatever the head is: 7, then 12.
 pub fn of_call(code: u32, out_len: usize) -> Option<u32> {
@@ -61,15 +62,26 @@ fn adts(head: &[u8]) -> Option<u32> {
         return Some(1);
     }
     let layer = field(head, 13, 2);
-    let has_crc = field(head, 15, 1) == 0;
     let rate_code = field(head, 18, 4);
     let frame_length = field(head, 30, 13);
     first(&[
         (2, field(head, 0, 12) != 0xFFF),
         (3, layer != 0),
         (4, rate_code >= 12),
-        (6, frame_length < if has_crc { 9 } else { 7 }),
+        (6, frame_length < adts_header_len(head)),
     ])
+}
+
+/// The bytes of an ADTS head, K3: 7 without CRC. With it two more for the CRC, and two for the position
+/// of each raw block after the first, which 13818-7 puts before it.
+pub fn adts_header_len(head: &[u8]) -> u64 {
+    let has_crc = field(head, 15, 1) == 0;
+    let further_blocks = field(head, 54, 2);
+    if has_crc {
+        9 + 2 * further_blocks
+    } else {
+        7
+    }
 }
 
 /// The number of the first ground that holds.

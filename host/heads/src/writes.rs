@@ -1,7 +1,7 @@
 //! Heads written on a tape: a second definition, from document 02's K1. Fields become bits one by
-//! one, and bits bytes; whether a head reads is asked of the Rust and of the number table.
+//! one, and bits bytes; whether a head reads is asked of the other references.
 
-use crate::reference;
+use crate::reference::{self, Expected};
 
 /// The syntax tables of the four heads.
 #[derive(Clone, Copy, Debug, PartialEq)]
@@ -134,22 +134,17 @@ impl Table {
     }
 
     /// Writes a head on the tape, or answers the number of the refusal: 13, 12, the reader's own. An
-    /// error says that the Rust and the number table contradict each other about the head.
-    pub fn write(
-        self,
-        fields: &Fields,
-        tape: &mut [u8],
-        at: u64,
-    ) -> Result<Result<(), u32>, String> {
+    /// error says which references contradict each other about the head.
+    pub fn write(self, fields: &Fields, tape: &mut [u8], at: u64) -> Result<Expected<()>, String> {
         if self.unfit(fields) {
-            return Ok(Err(13));
+            return Ok(Expected::refused(13));
         }
         let from = usize::try_from(at).ok().and_then(|at| tape.get_mut(at..));
         let Some(part) = from.and_then(|part| part.get_mut(..self.bytes())) else {
-            return Ok(Err(12));
+            return Ok(Expected::refused(12));
         };
         let bytes = self.bytes_of(fields);
         let head = &bytes[..self.bytes()];
-        Ok(reference::answer(self.code(), head)?.map(|_| part.copy_from_slice(head)))
+        Ok(reference::head(self.code(), head)?.map(|_| part.copy_from_slice(head)))
     }
 }

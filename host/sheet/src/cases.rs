@@ -3,7 +3,7 @@
 
 use super::audio_frame::{AudioFrameSplitter, AudioSyntax};
 use super::model::{self, Line};
-use super::text;
+use super::{text, AS_REQUESTED};
 use std::error::Error;
 
 /// Document 01's frame F.
@@ -34,11 +34,17 @@ const ENDS: [(u64, usize, &str); 4] = [
     (u64::MAX, 12_345, "E 18446744073709551615 12345\n"),
 ];
 
-/// An input by its parts, each so many times, and what is printed for it.
-type Sheet = (&'static [(&'static [u8], usize)], &'static str);
+/// An input by its parts, each so many times.
+type Parts = &'static [(&'static [u8], usize)];
+
+/// An input, and what is printed for it.
+type Sheet = (Parts, &'static str);
+
+/// An input, what the unchanged module prints for it, and what is printed now.
+type Changed = (Parts, &'static str, &'static str);
 
 /// Document 01's example, then its corners with the timestamp 0, then first lines.
-const SHEETS: [Sheet; 25] = [
+const SHEETS: [Sheet; 26] = [
     (
         &[(b"2\n", 1), (&F, 2)],
         "       1     7  6  1024  44100  2       -                    0
@@ -119,6 +125,13 @@ E                    0     0
 E                    0     0
 ",
     ),
+    // With CRC and one further block: 11 bytes, all of them head.
+    (
+        &[(b"2\n\xFF\xF0\x50\x80\x01\x60\x01", 1), (b"\0", 4)],
+        "       1    11  6  2048  44100  2       -                    0
+E                    0     0
+",
+    ),
     (
         &[(b"2\n\xFF\xF1\x50\x83\xFF\xE0\0", 1), (b"\0", 8_184)],
         "       1  8191  6  1024  44100  2       -                    0
@@ -143,12 +156,55 @@ E                    0     0
     (&[(b"02\n", 1), (&F, 2)], "?\n"),
 ];
 
-/// The inputs of all spelled sheets, with the sheets.
+/// With CRC and one further block, 9 bytes by its head. The Rust gives it; by request K3 it is no
+/// frame, since its head would have 11.
+pub const X: [u8; 9] = [0xFF, 0xF0, 0x50, 0x80, 0x01, 0x20, 0x01, 0x00, 0x00];
+
+/// X alone: it is not taken now. F X F F: F was given, since X behind it read; now its seven bytes
+/// are lost, and X's nine, and the next frame has the timestamp. F 00 X F F: F was lost before too,
+/// and the zero byte; now X's nine as well.
+const CHANGED: [Changed; 3] = [
+    (
+        &[(b"2\n", 1), (&X, 1)],
+        "       1     9  6  2048  44100  2       -                    0
+E                    0     0
+",
+        "E                    0     0\n",
+    ),
+    (
+        &[(b"2\n", 1), (&F, 1), (&X, 1), (&F, 2)],
+        "       1     7  6  1024  44100  2       -                    0
+       2     9  6  2048  44100  2       -                 4179
+       3     7  6  1024  44100  2       -                 4179
+       4     7  6  1024  44100  2       -                 6269
+E                    0     0
+",
+        "       1     7  6  1024  44100  2       -                    0
+       2     7  6  1024  44100  2       -                 2089
+E                   16     0
+",
+    ),
+    (
+        &[(b"2\n", 1), (&F, 1), (b"\0", 1), (&X, 1), (&F, 2)],
+        "       1     9  6  2048  44100  2       -                    0
+       2     7  6  1024  44100  2       -                 2089
+       3     7  6  1024  44100  2       -                 4179
+E                    8     0
+",
+        "       1     7  6  1024  44100  2       -                    0
+       2     7  6  1024  44100  2       -                 2089
+E                   17     0
+",
+    ),
+];
+
+/// The inputs of all spelled sheets, with the sheets by this module.
 pub fn sheets() -> impl Iterator<Item = (Vec<u8>, &'static str)> {
-    let input = |parts: &[(&[u8], usize)]| {
-        parts.iter().flat_map(|(bytes, times)| bytes.repeat(*times)).collect()
-    };
-    SHEETS.into_iter().map(move |(parts, sheet)| (input(parts), sheet))
+    let input =
+        |parts: Parts| parts.iter().flat_map(|(bytes, times)| bytes.repeat(*times)).collect();
+    let changed = |(parts, before, now)| (parts, if AS_REQUESTED { now } else { before });
+    let all = SHEETS.into_iter().chain(CHANGED.map(changed));
+    all.map(move |(parts, sheet)| (input(parts), sheet))
 }
 
 /// Holds a writer of frames' lines, the last line and the model to everything that is spelled out.

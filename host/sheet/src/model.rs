@@ -1,6 +1,7 @@
-//! What the program `cutsheet` must print: document 01's port order 7, over the Rust module's
-//! splitter.
+//! What the program `cutsheet` must print: document 01's port order 7, over the splitter of the
+//! Rust module that stands beside this file: the unchanged one, or the one as requested.
 
+// By `super`: it is compiled over either module, and in host/selftests/sheet over wrong texts.
 use super::audio_frame::{AudioFrame, AudioFrameSplitter, AudioSyntax};
 use super::text;
 use std::fmt;
@@ -15,11 +16,22 @@ const PAYLOAD: usize = 4_096;
 const AT_ONCE: usize = 16 * PAYLOAD;
 
 /// Prints what belongs to the standard input: its sheet, or a question mark.
-pub fn print(mut input: impl Read, sheet: &mut impl Write, line: Line) -> io::Result<()> {
+pub fn print(input: impl Read, sheet: &mut impl Write, line: Line) -> io::Result<()> {
+    print_while(input, sheet, line, |_, _| true)
+}
+
+/// The same while `goes_on`, which is asked before each payload is pushed: where it says no, the
+/// sheet ends with the lines so far.
+pub fn print_while(
+    mut input: impl Read,
+    sheet: &mut impl Write,
+    line: Line,
+    goes_on: impl FnMut(&AudioFrameSplitter, &[u8]) -> bool,
+) -> io::Result<()> {
     let mut first_line = [0; 2];
     let len = fill(&mut input, &mut first_line)?;
     match syntax(&first_line[..len]) {
-        Some(syntax) => cut(syntax, input, sheet, line),
+        Some(syntax) => cut(syntax, input, sheet, line, goes_on),
         None => sheet.write_all(b"?\n"),
     }
 }
@@ -41,6 +53,7 @@ fn cut(
     mut stream: impl Read,
     sheet: &mut impl Write,
     line: Line,
+    mut goes_on: impl FnMut(&AudioFrameSplitter, &[u8]) -> bool,
 ) -> io::Result<()> {
     let mut splitter = AudioFrameSplitter::new(syntax);
     let mut buffer = vec![0; AT_ONCE];
@@ -50,6 +63,9 @@ fn cut(
     loop {
         let len = fill(&mut stream, &mut buffer)?;
         for payload in buffer[..len].chunks(PAYLOAD) {
+            if !goes_on(&splitter, payload) {
+                return Ok(());
+            }
             for frame in splitter.push(payload, timestamp.take()) {
                 number += 1;
                 line(&mut lines, number, &frame).map_err(io::Error::other)?;

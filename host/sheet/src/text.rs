@@ -1,6 +1,6 @@
 //! The lines of a cut sheet, by document 01's port order 7.
 
-// By `super`: host/selftests/sheet compiles wrong texts of these beside each other.
+// By `super`: it is compiled over either module, and in host/selftests/sheet over wrong texts.
 use super::answers;
 use super::audio_frame::AudioFrame;
 use std::fmt::{self, Write};

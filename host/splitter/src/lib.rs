@@ -1,5 +1,6 @@
 //! The splitter's calls, and the answers that they must get: the Rust module's, with the numbers
-//! and the lent buffers that document 01 adds.
+//! and the lent buffers that document 01 adds. Over the unchanged module stands [`model`], over the
+//! module as requested [`requested::model`], and [`oracles`] has both.
 
 pub use oracle::{answers, audio_frame};
 
@@ -7,5 +8,7 @@ pub mod answer;
 pub mod call;
 pub mod calls;
 pub mod model;
+pub mod oracles;
 pub mod refusals;
+pub mod requested;
 pub mod state;

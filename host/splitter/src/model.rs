@@ -1,7 +1,8 @@
 //! The answers to expect of a list of calls: the Rust module's frames and fields, the refusals from
-//! `refusals.rs`, and document 01's rules about rows and lent buffers.
+//! `refusals.rs`, and document 01's rules about rows and lent buffers. The module is the one that
+//! stands beside this file: the unchanged one, or the one as requested.
 
-// By `super`: host/selftests/splitter compiles wrong texts of these beside each other.
+// By `super`: it is compiled over either module, and in host/selftests/splitter over wrong texts.
 use super::audio_frame::{AudioFrame, AudioFrameSplitter, AudioSyntax, Parts};
 use super::{answers, refusals};
 use crate::answer::{Answer, Outcome, Row};
@@ -44,8 +45,23 @@ impl Model {
             state: self.state(),
             rows: frames.iter().map(row).collect(),
             output: frames.iter().flat_map(|frame| &frame.data).copied().collect(),
-            pending: self.buffer[..self.held()].to_vec(),
+            pending: self.pending_bytes().to_vec(),
         }
+    }
+
+    /// The bytes that are pending; of more than the buffer has, all that it has.
+    pub fn pending_bytes(&self) -> &[u8] {
+        &self.buffer[..self.held()]
+    }
+
+    pub fn buffer(&self) -> &[u8; MOST_PENDING] {
+        &self.buffer
+    }
+
+    /// Lends it another pending buffer, with the bytes of that one. A call that sets the state must
+    /// follow: what is pending is kept in the splitter too.
+    pub fn lend(&mut self, buffer: &[u8; MOST_PENDING]) {
+        self.buffer = *buffer;
     }
 
     pub fn state(&self) -> State {
@@ -90,7 +106,7 @@ impl Model {
         self.pending = state.pending;
         self.splitter = AudioFrameSplitter::from_parts(Parts {
             syntax: syntax(state.code),
-            residual: self.buffer[..self.held()].to_vec(),
+            residual: self.pending_bytes().to_vec(),
             residual_pts: state.pts,
             anchor: state.anchor.map(|a| (a.pts, a.frames, a.samples, a.rate)),
             discarded: state.discarded,

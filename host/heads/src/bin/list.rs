@@ -1,14 +1,16 @@
-//! Writes the stored list: heads, skips, durations and heads to be written, one a line, and beside it
-//! the answers that they must get. A Rattle program replays it where no Rust is at hand.
+//! Writes the stored list: heads, lengths of heads, skips, durations and heads to be written, one a
+//! line, and beside it the answers that they must get. A Rattle program replays it where no Rust is at
+//! hand.
 //!
 //!   list INPUTS ANSWERS
 //!
-//! An input is `CODE HEX..`, `m HEX..`, `s CODE HEX..`, `d SAMPLES RATE` or `w TABLE AT ROOM FIELD..`. Its
-//! answer is the six numbers of the head, the place, the duration, the tape, or `refused NUMBER`.
+//! An input is `CODE HEX..`, `m HEX..`, `h HEX..`, `s CODE HEX..`, `d SAMPLES RATE` or `w TABLE AT
+//! ROOM FIELD..`. Its answer is the six numbers of the head, its length, the place, the duration, the
+//! tape, or `refused NUMBER`.
 
 use common::random::Random;
 use common::samples::{self, Ac3, Adts, Bytes, Eac3, Mpeg, KINDS};
-use heads::line::Line::{self, Chart, Duration, Head, Skip};
+use heads::line::Line::{self, Chart, Duration, Head, HeadLength, Skip};
 use heads::line::MOST_BYTES;
 use heads::records::{by_chance, good};
 use heads::writes::{Fields, Table, MOST_FIELDS, TABLES};
@@ -21,6 +23,10 @@ fn main() -> ExitCode {
         eprintln!("usage: list INPUTS ANSWERS");
         return ExitCode::from(2);
     };
+    if let Err(what) = cases::check_head_lengths() {
+        eprintln!("list: {what}");
+        return ExitCode::FAILURE;
+    }
     let lines = all_lines();
     let written = std::fs::write(inputs, text(&lines, Line::text))
         .and_then(|()| std::fs::write(answers, text(&lines, answer)));
@@ -40,7 +46,7 @@ fn text(lines: &[Line], form: fn(&Line) -> Vec<u8>) -> Vec<u8> {
 
 fn answer(line: &Line) -> Vec<u8> {
     match line.answer() {
-        Ok(answer) => answer.into_bytes(),
+        Ok(answer) => answer.text.into_bytes(),
         Err(contradiction) => {
             panic!("{}: {contradiction}", String::from_utf8_lossy(&line.text()))
         }
@@ -71,6 +77,9 @@ fn all_lines() -> Vec<Line> {
     lines.extend(tapes());
     lines.extend(chart_heads());
     lines.extend(refused_by_the_chart());
+    lines.extend(cases::K3.iter().map(case));
+    lines.extend(head_lengths());
+    lines.extend(cut_head_lengths());
     lines
 }
 
@@ -386,4 +395,31 @@ fn refused_by_the_chart() -> Vec<Line> {
         &[0xFF, 0xFB, 0x9C, 0xC0], &[0xFF, 0xF7, 0xEE, 0xC0],
     ];
     heads.map(|head| Chart(head.to_vec())).into()
+}
+
+/// The lengths of ADTS heads by hand; what each of these heads says; and those that have all their
+/// bytes, written from their fields.
+fn head_lengths() -> Vec<Line> {
+    let mut lines = Vec::new();
+    for cases::HeadLength { head, .. } in &cases::HEAD_LENGTHS {
+        lines.push(HeadLength(head.to_vec()));
+        lines.push(Head(2, head.to_vec()));
+        if head.len() >= Table::Adts.bytes() {
+            lines.push(Line::Write(Table::Adts, Table::Adts.read(head), 1, 9));
+        }
+    }
+    lines
+}
+
+/// The length of an ADTS head that is cut at every length up to 8, and has bytes behind it, at last
+/// as many as a line may give; then those of damaged ones.
+fn cut_head_lengths() -> Vec<Line> {
+    let mut random = Random::new(3);
+    let with_crc = samples::with_fields(samples::good(6, &mut random), &[(15, 1, 0), (54, 2, 2)]);
+    let mut bytes = with_crc.to_vec();
+    bytes.resize(MOST_BYTES, 0xFF);
+    let cut = (0..=8).chain([16, MOST_BYTES]).map(|len| HeadLength(bytes[..len].to_vec()));
+    let mut lines: Vec<Line> = cut.collect();
+    lines.extend((0..24).map(|_| HeadLength(samples::damaged(6, &mut random)[..8].to_vec())));
+    lines
 }

@@ -1,9 +1,10 @@
 //! Runs a program on a little more than a hundred million frames, so that the numbers of its lines
-//! begin anew, and compares its sheet with the model's. By hand: it takes some minutes.
+//! begin anew, and compares its sheet with that of the module as requested. By hand: it takes some
+//! minutes.
 
 use common::asking::verdict;
 use sheet::cases::F;
-use sheet::{model, text};
+use sheet::requested::{model, text};
 use std::error::Error;
 use std::io::{self, BufRead, BufReader, BufWriter, Write};
 use std::process::{Command, ExitCode, Stdio};

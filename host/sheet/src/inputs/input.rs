@@ -3,7 +3,7 @@
 use super::demo::{self, Demo};
 use super::long::SORTS;
 use super::{edges, first_lines, large};
-use crate::cases;
+use crate::requested::cases;
 use common::random::Random;
 
 /// A group of inputs, and a name in it.
@@ -14,7 +14,7 @@ pub struct Input {
     pub sort: Sort,
     /// First line and stream.
     pub bytes: Vec<u8>,
-    /// Its sheet, where that is spelled out.
+    /// Its sheet as requested, where that is spelled out.
     pub spelled: Option<&'static str>,
 }
 
@@ -32,7 +32,8 @@ impl Input {
 /// What comes in every run, then so many inputs by chance, then the large ones, which take longest.
 pub fn all(count: u64, seed: u64, demos: &[Demo]) -> impl Iterator<Item = Input> + '_ {
     let small = spelled().chain(malformed()).chain(each_sort(seed)).chain(edges::inputs(seed));
-    let fixed = small.chain(first_line_pairs()).chain(demo::inputs(demos, seed));
+    let small = small.chain(edges::outside()).chain(first_line_pairs());
+    let fixed = small.chain(demo::inputs(demos, seed));
     let by_chance = (0..count).map(move |n| by_chance(demos, random(seed, n)));
     fixed.chain(by_chance).chain(large::inputs(seed))
 }

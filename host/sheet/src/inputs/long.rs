@@ -1,6 +1,6 @@
 //! Streams of some kilobytes, so that they go through several payloads.
 
-use common::frames::{filled, frame, kinds, likely};
+use common::frames::{filled, frame, kinds, likely, NEVER};
 use common::random::Random;
 use common::samples::{self, Bytes};
 use common::soup::{self, Sort};
@@ -25,6 +25,10 @@ pub const SORTS: [(&str, Maker); 13] = [
     ("pieces of frames", pieces),
 ];
 
+/// One short ADTS frame in so many is outside the domain of equality. A stream has hundreds of frames,
+/// and should be inside for some payloads, or to its end.
+const OUTSIDE: [u64; 5] = [10, 40, 160, NEVER, NEVER];
+
 /// Streams of undamaged frames.
 const WHOLE: [Maker; 6] =
     [one_head, any_heads, short_frames, shortest_frames, longest_frames, even_frames];
@@ -43,7 +47,7 @@ fn grown(len: usize, mut part: impl FnMut() -> Vec<u8>) -> Vec<u8> {
 fn any_bytes(code: u32, len: usize, random: &mut Random) -> Vec<u8> {
     let mut bytes = Vec::new();
     if random.below(2) == 0 {
-        bytes.extend(frame(random.pick(kinds(code)), random));
+        bytes.extend(frame(random.pick(kinds(code)), OUTSIDE[0], random));
     }
     bytes.extend(junk(code, len, random));
     bytes
@@ -76,7 +80,12 @@ fn any_heads(code: u32, len: usize, random: &mut Random) -> Vec<u8> {
 }
 
 fn short_frames(code: u32, len: usize, random: &mut Random) -> Vec<u8> {
-    grown(len, || frame(random.pick(kinds(code)), random))
+    let outside = random.pick(&OUTSIDE);
+    short_frames_with(code, len, outside, random)
+}
+
+fn short_frames_with(code: u32, len: usize, outside: u64, random: &mut Random) -> Vec<u8> {
+    grown(len, || frame(random.pick(kinds(code)), outside, random))
 }
 
 /// Frames with these fields, the others by chance.
@@ -187,16 +196,18 @@ fn junk_first(code: u32, len: usize, random: &mut Random) -> Vec<u8> {
 
 /// Frames, with junk between them or far apart.
 fn junk_between(code: u32, len: usize, random: &mut Random) -> Vec<u8> {
+    let outside = random.pick(&OUTSIDE);
     grown(len, || {
-        let mut bytes = short_frames(code, len / 8 + 1, random);
+        let mut bytes = short_frames_with(code, len / 8 + 1, outside, random);
         match random.below(2) {
             0 => bytes.extend(junk(code, random.below(600) as usize, random)),
-            _ => bytes.extend(soup::stream(Sort::Sparse, code, random)),
+            _ => bytes.extend(soup::stream_with(Sort::Sparse, code, outside, random)),
         }
         bytes
     })
 }
 
 fn pieces(code: u32, len: usize, random: &mut Random) -> Vec<u8> {
-    grown(len, || soup::stream(Sort::Pieces, code, random))
+    let outside = random.pick(&OUTSIDE);
+    grown(len, || soup::stream_with(Sort::Pieces, code, outside, random))
 }

@@ -1,8 +1,8 @@
 //! Answers a list of calls as the program under test must: for each line of its input it prints the
-//! answer to expect.
+//! answer of the module as requested.
 
 use splitter::answer::answer_lines;
-use splitter::model::Model;
+use splitter::requested::model::Model;
 
 fn main() -> std::io::Result<()> {
     let mut model = Model::default();

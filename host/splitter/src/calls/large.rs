@@ -7,6 +7,9 @@ use common::frames::frame;
 use common::random::Random;
 use common::samples::Adts;
 
+/// One ADTS frame in so many is outside the domain of equality.
+const OUTSIDE: u64 = 10;
+
 /// An ADTS frame of that length, filled with one byte.
 fn adts(length: u64, fill: u8) -> Vec<u8> {
     let fields = Adts {
@@ -75,9 +78,9 @@ pub fn longest_joined(talk: &mut Talk) {
 /// One short frame of that syntax again and again.
 fn frames_of(code: u32, len: usize, random: &mut Random) -> Vec<u8> {
     let kind = [2, 5, 6][code as usize];
-    let mut bytes = frame(kind, random);
+    let mut bytes = frame(kind, OUTSIDE, random);
     while bytes.len() < 8 {
-        bytes = frame(kind, random);
+        bytes = frame(kind, OUTSIDE, random);
     }
     bytes.into_iter().cycle().take(len).collect()
 }

@@ -49,6 +49,7 @@ impl Sequences {
             0 => states::all_grounds(talk),
             1 => large::longest_joined(talk),
             2 => ENDS.into_iter().for_each(|end| large::longest_frame(end, talk, random)),
+            3 => short::pending_words(talk),
             n if n % 2 == 0 => by_chance(talk, random),
             n => match self.short.next() {
                 Some(short) => short.tell(n % 4 == 1, talk),

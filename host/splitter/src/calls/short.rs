@@ -1,4 +1,4 @@
-//! Short streams cut everywhere: every string of up to three words of a small alphabet for each
+//! Short streams cut everywhere: every string of two or three words of a small alphabet for each
 //! syntax, and document 01's streams at every pair of places with every pattern of timestamps.
 
 use super::talk::Talk;
@@ -14,12 +14,16 @@ pub struct Short {
     stamped: u32,
 }
 
-/// F, then with CRC, then a false head that is longer than F, then other geometry, and loose bytes.
-const ADTS: [&[u8]; 6] = [
+/// F, then with CRC, then a false head that is longer than F, then other geometry; with CRC and a
+/// further block a frame of 11 bytes, and one that says 9, fewer than its head has, by which it is
+/// outside the domain of equality; and loose bytes.
+const ADTS: [&[u8]; 8] = [
     &[0xFF, 0xF1, 0x50, 0x80, 0x00, 0xE0, 0x00],
     &[0xFF, 0xF0, 0x50, 0x80, 0x01, 0x20, 0x00, 0xFF, 0xF1],
     &[0xFF, 0xF1, 0x50, 0x80, 0x01, 0x40, 0x00, 0xFF, 0xF1, 0x50],
     &[0xFF, 0xF1, 0x4C, 0x80, 0x00, 0xE0, 0x01],
+    &[0xFF, 0xF0, 0x50, 0x80, 0x01, 0x60, 0x01, 0x00, 0x00, 0xFF, 0xF1],
+    &[0xFF, 0xF0, 0x50, 0x80, 0x01, 0x20, 0x01, 0xFF, 0xF1],
     &[0xFF],
     &[0x00],
 ];
@@ -46,6 +50,9 @@ const MPEG: [&[u8]; 5] = [
     &[0x00],
 ];
 
+/// The alphabets by their codes.
+const WORDS: [(u32, &[&[u8]]); 3] = [(2, &ADTS), (0, &EAC3), (1, &MPEG)];
+
 /// A stream of two words that is longer than this is cut into two payloads only.
 const MOST_BYTES_IN_THREE: usize = 20;
 
@@ -57,7 +64,7 @@ pub fn all() -> Vec<Short> {
             three_payloads(&mut all, code, &bytes, |_| pattern);
         }
     }
-    for (code, words) in [(2, &ADTS[..]), (0, &EAC3[..]), (1, &MPEG[..])] {
+    for (code, words) in WORDS {
         for a in words {
             for b in words {
                 two_words(&mut all, code, &[*a, *b].concat());
@@ -115,15 +122,10 @@ fn three_payloads(all: &mut Vec<Short>, code: u32, bytes: &[u8], pattern: impl F
 impl Short {
     /// Pushes its payloads to a new splitter, or to one that is locked and has an anchor. Flushes.
     pub fn tell(&self, locked: bool, talk: &mut Talk) {
-        let start = match locked {
+        talk.ask(match locked {
             false => Call::New(self.code),
-            true => {
-                let anchor = Anchor { pts: 500, frames: 3, samples: 1_152, rate: 44_100 };
-                let new = State::new(self.code);
-                Call::Set(State { anchor: Some(anchor), locked, ..new }, Vec::new())
-            }
-        };
-        talk.ask(start);
+            true => Call::Set(locked_state(self.code), Vec::new()),
+        });
         let [first, second] = self.cuts;
         let payloads = [&self.bytes[..first], &self.bytes[first..second], &self.bytes[second..]];
         for (n, payload) in payloads.into_iter().enumerate() {
@@ -135,4 +137,28 @@ impl Short {
         }
         talk.flush();
     }
+}
+
+/// Each word cut everywhere: its first part is pending in a state that is set, and flushed; then
+/// its second part is pushed. Some of what is pending here no call leaves behind: whole frames, and
+/// heads that do not read.
+pub fn pending_words(talk: &mut Talk) {
+    let words = WORDS.into_iter().flat_map(|(code, words)| words.iter().map(move |w| (code, *w)));
+    for (code, word) in words {
+        for cut in 0..=word.len() {
+            let (first, second) = word.split_at(cut);
+            for state in [State::new(code), locked_state(code)] {
+                let state = State { pending: cut as u64, pts: Some(77), ..state };
+                talk.ask(Call::Set(state, first.to_vec()));
+                talk.flush();
+                talk.push(None, second);
+            }
+        }
+    }
+}
+
+/// Locked, and with an anchor.
+fn locked_state(code: u32) -> State {
+    let anchor = Anchor { pts: 500, frames: 3, samples: 1_152, rate: 44_100 };
+    State { anchor: Some(anchor), locked: true, ..State::new(code) }
 }

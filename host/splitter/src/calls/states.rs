@@ -3,8 +3,9 @@
 use super::talk::{any_time, Talk, FAR};
 use crate::call::{Call, Lent, MOST_PENDING};
 use crate::state::{Anchor, State};
+use common::frames::NEVER;
 use common::random::Random;
-use common::soup::{stream, Sort};
+use common::soup::{stream, stream_with, Sort};
 
 /// One of `usual`, or one time in `rarely` one of `others`.
 fn mostly<T: Copy>(usual: &[T], rarely: u64, others: &[T], random: &mut Random) -> T {
@@ -79,7 +80,9 @@ fn call(code: u32, talk: &mut Talk, random: &mut Random) {
 /// Bytes for the front of the pending buffer: none, pieces of frames, or whole frames too.
 fn pending_bytes(code: u32, random: &mut Random) -> Vec<u8> {
     let sort = random.pick(&[Sort::Whole, Sort::Damaged, Sort::Pieces, Sort::Sparse]);
-    let mut bytes = stream(sort, code.min(2), random);
+    // A flush asks about a head outside the domain only where that is the first.
+    let outside = random.pick(&[2, 15, NEVER]);
+    let mut bytes = stream_with(sort, code.min(2), outside, random);
     bytes.truncate(match random.below(4) {
         0 => 0,
         1 => random.below(9) as usize,

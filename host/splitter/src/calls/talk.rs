@@ -1,9 +1,9 @@
-//! A splitter talked to: calls by chance, each with the answer that it must get. The lent lengths
-//! depend on what is pending, so that the calls are made beside the model.
+//! A splitter talked to: calls by chance, each with the answers that it must get. The lent lengths
+//! depend on what is pending, so that the calls are made beside the models.
 
-use crate::answer::{Answer, Outcome};
+use crate::answer::Outcome;
 use crate::call::{Call, Lent, MOST_OUTPUT, MOST_PAYLOAD, MOST_PENDING, MOST_ROWS};
-use crate::model::Model;
+use crate::oracles::{Answers, Oracles};
 use crate::state::State;
 use common::random::Random;
 
@@ -17,16 +17,16 @@ pub const FAR: [i64; 10] = [
     (1 << 62) + 1, -(1 << 62) - 1, i64::MAX, i64::MIN, i64::MIN + 1,
 ];
 
-/// A call, the state before it, and the answer that it must get.
+/// A call, the state before it as requested, and what it must be answered.
 pub struct Exchange {
     pub call: Call,
     pub before: State,
-    pub answer: Answer,
+    pub answers: Answers,
 }
 
 #[derive(Default)]
 pub struct Talk {
-    model: Model,
+    oracles: Oracles,
     said: Vec<Exchange>,
 }
 
@@ -37,13 +37,13 @@ impl Talk {
     }
 
     pub fn state(&self) -> State {
-        self.model.state()
+        self.oracles.state()
     }
 
     pub fn ask(&mut self, call: Call) {
-        let before = self.model.state();
-        let answer = self.model.answer(&call);
-        self.said.push(Exchange { call, before, answer });
+        let before = self.oracles.state();
+        let answers = self.oracles.answer(&call);
+        self.said.push(Exchange { call, before, answers });
     }
 
     /// A push with buffers that are just long enough.
@@ -100,7 +100,7 @@ impl Talk {
     }
 
     fn last_outcome(&self) -> Option<&Outcome> {
-        self.said.last().map(|last| &last.answer.outcome)
+        self.said.last().map(|last| &last.answers.requested.outcome)
     }
 
     /// Now and then a call that is no push.

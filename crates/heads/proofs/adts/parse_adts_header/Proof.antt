@@ -1,36 +1,36 @@
 -- `parse_adts_header` meets its contract. Assumes nothing.
 use native.Mathlib.Omega.{arith}
-use Rattle.heads.proofs.Grounds.{answered, grounds}
+use Rattle.heads.proofs.Grounds.{grounds}
 use Rattle.heads.proofs.SyncWord.{sync-words}
-use Rattle.heads.proofs.AdtsLaws.{short, judged}
+use Rattle.heads.proofs.AdtsLaws.{short, judged, header-is, refused-as, read-as, reported}
 use Rattle.heads.specs.Adts.{adtsJudged}
 use borrow.Author.Needs.{needs}
 use Rattle.heads.proofs.adts.parse_adts_header.Statement.{statement}
 use Rattle.heads.proofs.adts.parse_adts_header.Tie as tie
 
 returns : tie.Need-returns
-returns c = answered (search short)
+returns c = reported (search (refused-as, short))
 
 shared-slice-read-if2 : tie.Need-shared-slice-read-if2
 shared-slice-read-if2 c = search needs
 
 returns-2 : tie.Need-returns-2
 unfolding adtsJudged
-returns-2 c = answered (search (judged, sync-words, grounds, c .before .shared-slice-known2 .given) depth 14)
+returns-2 c = reported (search (refused-as, judged, sync-words, grounds, c .before .shared-slice-known2 .given) depth 15)
 
 shared-slice-read-if3 : tie.Need-shared-slice-read-if3
 shared-slice-read-if3 c = search needs
 
 returns-3 : tie.Need-returns-3
 unfolding adtsJudged
-returns-3 c = answered (search (judged, sync-words, grounds, c .before .shared-slice-known3 .given) depth 14)
+returns-3 c = reported (search (refused-as, judged, sync-words, grounds, c .before .shared-slice-known3 .given) depth 15)
 
 shared-slice-read-layer : tie.Need-shared-slice-read-layer
 shared-slice-read-layer c = search needs
 
 returns-4 : tie.Need-returns-4
 unfolding adtsJudged
-returns-4 c = answered (search (judged, sync-words, grounds, c .before .shared-slice-known4 .given) depth 14)
+returns-4 c = reported (search (refused-as, judged, sync-words, grounds, c .before .shared-slice-known4 .given) depth 15)
 
 shared-slice-read-protection-absent : tie.Need-shared-slice-read-protection-absent
 shared-slice-read-protection-absent c = search needs
@@ -43,7 +43,7 @@ cast-sf-index c = search needs
 
 returns-5 : tie.Need-returns-5
 unfolding adtsJudged
-returns-5 c = answered (search (judged, sync-words, grounds, c .before .shared-slice-known6 .given) depth 14)
+returns-5 c = reported (search (refused-as, judged, sync-words, grounds, c .before .shared-slice-known6 .given) depth 15)
 
 shared-slice-read-channel-configuration : tie.Need-shared-slice-read-channel-configuration
 shared-slice-read-channel-configuration c = search needs
@@ -101,7 +101,7 @@ adts-header-len-requires c κs = search needs
 
 returns-6 : tie.Need-returns-6
 unfolding adtsJudged
-returns-6 c = answered (search (judged, sync-words, grounds, c .before .before .shared-slice-known12 .given) depth 14)
+returns-6 c = reported (search (refused-as, judged, sync-words, grounds, c .before .before .shared-slice-known12 .given) depth 15)
 
 add-samples : tie.Need-add-samples
 add-samples c = search needs
@@ -123,7 +123,7 @@ array-read-channels c = omega (arith, c .before .before .shared-slice-known12 .g
 
 returns-7 : tie.Need-returns-7
 unfolding adtsJudged
-returns-7 c = answered (search (judged, sync-words, grounds, c .before .before .shared-slice-known12 .given) depth 14)
+returns-7 c = reported (search (read-as, judged, header-is, sync-words, grounds, c .before .before .shared-slice-known12 .given) depth 15)
 
 pub parse-adts-header-spec : {M : Type 1} → statement M
 parse-adts-header-spec =

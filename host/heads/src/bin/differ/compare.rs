@@ -1,11 +1,12 @@
-//! One head or duration asked of the libraries, the oracle and the second definition of the numbers.
+//! One head or duration asked of the libraries, the oracles and the second definition of the numbers.
 
 use crate::reads::{write_counts, Reads};
+use crate::sides::Sides;
 use crate::tapes::Writes;
 use heads::library::{self, Answer, Touched};
+use heads::numbers;
+use heads::reference::{self, Expected};
 use heads::writes::TABLES;
-use heads::{numbers, reference};
-use oracle::answers;
 use std::fmt;
 
 /// Lent lengths that are long enough, taken in turn. Five of them, so that the turn does not keep
@@ -22,6 +23,8 @@ pub struct Difference(pub String);
 #[derive(Default)]
 pub struct Tally {
     reads: Reads,
+    /// Of the heads that were read.
+    pub sides: Sides,
     /// Of the chart reader, which every MPEG audio head is asked of, and every one that was written.
     pub by_chart: Reads,
     durations: u64,
@@ -45,8 +48,9 @@ impl Tally {
     pub fn agreed(&mut self, code: u32, head: &[u8], out_len: usize) -> Result<Answer, Difference> {
         let library = library::read_guarded(code, head, out_len);
         match expected(code, head, out_len) {
-            Ok(answer) if library == Ok(answer) => {
+            Ok(Expected { answer, side }) if library == Ok(answer) => {
                 self.reads.count(answer);
+                self.sides.count(side);
                 if code == 1 {
                     self.chart(head, out_len, answer)?;
                 }
@@ -55,7 +59,10 @@ impl Tally {
                 }
                 Ok(answer)
             }
-            expected => Err(wrong_answer("the library", code, head, out_len, library, expected)),
+            expected => {
+                let expected = expected.map(|expected| expected.answer);
+                Err(wrong_answer("the library", code, head, out_len, library, expected))
+            }
         }
     }
 
@@ -71,11 +78,11 @@ impl Tally {
 
     /// Compares a duration.
     pub fn duration(&mut self, samples: u32, rate: u32) -> Outcome {
+        let at = |what| Difference(format!("{samples} samples at {rate} Hz: {what}"));
         let library = library::duration_90k(samples, rate);
-        let rust = answers::duration_90k(samples, rate);
+        let rust = reference::duration(samples, rate).map_err(at)?;
         if library != rust {
-            let answers = format!("the library says {library}, the Rust {rust}");
-            return Err(Difference(format!("{samples} samples at {rate} Hz: {answers}")));
+            return Err(at(format!("the library says {library}, the Rust {rust}")));
         }
         self.durations += 1;
         Ok(())
@@ -83,19 +90,22 @@ impl Tally {
 
     pub fn add(&mut self, other: &Tally) {
         self.reads.add(&other.reads);
+        self.sides.add(&other.sides);
         self.by_chart.add(&other.by_chart);
         self.durations += other.durations;
         self.writes.add(&other.writes);
     }
 
     /// The kinds 1 to 6 and the numbers 1 to 7 and 12 that no head has shown; of the chart reader those
-    /// that MPEG audio has.
+    /// that MPEG audio has; and the sides of the domain on which no head was, read or to be written.
     pub fn unseen(&self) -> Vec<String> {
         let unseen = self.reads.unseen(&[1, 2, 3, 4, 5, 6], &[1, 2, 3, 4, 5, 6, 7, 12]);
         let by_chart = self.by_chart.unseen(&[3, 4, 5], &[1, 2, 3, 4, 5, 12]);
         unseen
             .into_iter()
             .chain(by_chart.iter().map(|what| format!("{what} by the chart")))
+            .chain(self.sides.unseen("a head"))
+            .chain(self.writes.sides.unseen("a head to be written"))
             .collect()
     }
 }
@@ -108,6 +118,8 @@ impl fmt::Display for Tally {
             (self.durations, "durations"),
             (self.writes.rewritten, "rewritten"),
             (self.writes.total(), "writes"),
+            (self.sides.outside, "outside the domain"),
+            (self.writes.sides.outside, "writes outside the domain"),
         ];
         for (count, name) in more.into_iter().filter(|(count, _)| *count > 0) {
             write!(f, "; {count} {name}")?;
@@ -119,11 +131,11 @@ impl fmt::Display for Tally {
     }
 }
 
-/// What the call must answer. An error says that the two references contradict each other.
-fn expected(code: u32, head: &[u8], out_len: usize) -> Result<Answer, String> {
+/// What the call must answer. An error says that the references contradict each other.
+fn expected(code: u32, head: &[u8], out_len: usize) -> Result<Expected<[u32; 6]>, String> {
     match numbers::of_call(code, out_len) {
-        Some(number) => Ok(Err(number)),
-        None => reference::answer(code, head),
+        Some(number) => Ok(Expected::refused(number)),
+        None => reference::head(code, head),
     }
 }
 

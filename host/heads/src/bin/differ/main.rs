@@ -1,14 +1,17 @@
-//! The differential runner: the libraries under test beside the Rust module, the number table and the
-//! second definition of writing. It stops with status 1 at the first difference, or where a kind or a
-//! number was never seen.
+//! The differential runner: the libraries under test beside the Rust module as requested, inside the
+//! domain of equality beside the unchanged one too, the number table and the second definition of
+//! writing. It stops with status 1 at the first difference, or where a kind, a number or a side of the
+//! domain was never seen.
 
 mod compare;
 mod reads;
 mod runs;
+mod sides;
 mod tapes;
 
 use common::asking;
 use compare::{Difference, Outcome, Tally};
+use oracle::domain;
 use std::process::ExitCode;
 use std::time::Instant;
 
@@ -25,8 +28,9 @@ pub struct Options {
 type Run = fn(&mut Tally, &Options) -> Outcome;
 
 /// Quick ones first, so that a difference shows soon.
-const RUNS: [(&str, Run); 23] = [
-    ("document 01's cases", runs::document_cases),
+const RUNS: [(&str, Run); 24] = [
+    ("document 01's cases and K3's", runs::document_cases),
+    ("ADTS, frames about the length of their heads", runs::short_adts_frames),
     ("durations", runs::durations),
     ("codes above 2", runs::other_codes),
     ("heads made to read", runs::good_heads),
@@ -61,6 +65,7 @@ fn main() -> ExitCode {
 
 fn all_runs(options: &Options) -> Outcome {
     println!("seed {}", options.seed);
+    domain::cases::check().map_err(Difference)?;
     let mut total = Tally::default();
     for (name, run) in RUNS {
         let start = Instant::now();
@@ -72,6 +77,8 @@ fn all_runs(options: &Options) -> Outcome {
     }
     println!("total: {total}");
     println!("by the chart: {}", total.by_chart);
+    println!("read: {}", total.sides);
+    println!("written: {}", total.writes.sides);
     match total.unseen() {
         unseen if unseen.is_empty() => Ok(()),
         unseen => Err(Difference(format!("never seen: {}", unseen.join(", ")))),

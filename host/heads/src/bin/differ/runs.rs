@@ -5,7 +5,9 @@ use crate::Options;
 use common::random::Random;
 use common::samples::{self, Bytes, KINDS};
 use heads::cases;
-use heads::library::{self, LONGEST_OUT, RECORD};
+use heads::library::{self, LONGEST_OUT, LONGEST_TAPE, RECORD};
+use heads::writes::Table;
+use oracle::domain;
 
 /// Heads in each of the runs over head lengths and lent lengths.
 const SAMPLES: u32 = 20_000;
@@ -14,7 +16,7 @@ const SAMPLES: u32 = 20_000;
 const RATES: [u32; 12] =
     [8_000, 11_025, 12_000, 16_000, 22_050, 24_000, 32_000, 44_100, 48_000, 64_000, 88_200, 96_000];
 
-/// Document 01's own cases: its answer is held against the one that all sides give.
+/// Document 01's own cases, and K3's: the answer by hand is held against the one that all sides give.
 pub fn document_cases(tally: &mut Tally, _: &Options) -> Outcome {
     for case in cases::heads() {
         let answer = tally.agreed(case.code, case.head, RECORD)?;
@@ -66,14 +68,16 @@ pub fn other_codes(tally: &mut Tally, _: &Options) -> Outcome {
     Ok(())
 }
 
-/// Heads made to read: each of them must, as the kind that it was made for.
+/// Heads made to read: each of them must, as the kind that it was made for. A few of ADTS are outside
+/// the domain: the unchanged Rust reads them, and 6 refuses them.
 pub fn good_heads(tally: &mut Tally, options: &Options) -> Outcome {
     let mut random = Random::new(options.seed);
     for _ in 0..SAMPLES {
         let kind = random.pick(&KINDS);
         let (code, head) = (samples::code_of(kind), samples::good(kind, &mut random));
         let answer = tally.agreed(code, &head, RECORD)?;
-        if answer.map(|six| six[0]) != Ok(kind) {
+        let made_for = if domain::is_outside(code, &head) { Err(6) } else { Ok(kind) };
+        if answer.map(|six| six[0]) != made_for {
             let answers = format!("made as kind {kind}, {}", words(answer));
             return Err(difference(code, &head, &answers));
         }
@@ -178,6 +182,48 @@ pub fn adts_lengths(tally: &mut Tally, options: &Options) -> Outcome {
         }
     }
     Ok(())
+}
+
+/// K3: ADTS heads about the bound of their frame_length, which with CRC and n further blocks is
+/// 9 + 2 × n, at most 15; and numbers far above it, whose low bits alone are below. Each is read with
+/// a byte too few, with all, and with one more; and written.
+pub fn short_adts_frames(tally: &mut Tally, _: &Options) -> Outcome {
+    for frame_length in (0..32).chain([256, 2048, 2057, 4096, 4106, 8191]) {
+        for rate_code in [0, 11, 12, 15] {
+            for choice in 0..128 {
+                let head = chosen_adts(frame_length, rate_code, choice);
+                for len in [6, 7, 8] {
+                    tally.head(2, &head[..len])?;
+                }
+                tally.write(Table::Adts, &Table::Adts.read(&head), LONGEST_TAPE, 0)?;
+            }
+        }
+    }
+    // 9 and 10 for n = 1, 9 to 12 for n = 2, 9 to 14 for n = 3; each with two IDs, two rate indices
+    // and all other bits in two ways. Those are read with 7 and with 8 bytes, and written once.
+    let heads = (2 + 4 + 6) * 2 * 2 * 2;
+    match [tally.sides.outside, tally.writes.sides.outside] {
+        found if found == [2 * heads, heads] => Ok(()),
+        found => Err(Difference(format!(
+            "outside the domain are {found:?} heads, and not twice and once {heads}"
+        ))),
+    }
+}
+
+/// An ADTS head with these fields; by `choice`, below 128, each ID, layer, CRC and number of further
+/// blocks, and all other bits 0 or 1.
+fn chosen_adts(frame_length: u64, rate_code: u64, choice: u64) -> Bytes {
+    // ID, layer and protection_absent stand side by side.
+    let [id_to_crc, further_blocks] = [choice % 16, choice / 16 % 4];
+    let rest = if choice < 64 { [0x00; 16] } else { [0xFF; 16] };
+    let fields = [
+        (0, 12, 0xFFF),
+        (12, 4, id_to_crc),
+        (18, 4, rate_code),
+        (30, 13, frame_length),
+        (54, 2, further_blocks),
+    ];
+    samples::with_fields(rest, &fields)
 }
 
 /// Every (byte 2, byte 3) of E-AC-3, so every frmsiz, with each bsid that is E-AC-3.

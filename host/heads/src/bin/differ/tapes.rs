@@ -2,13 +2,13 @@
 //! writes are compared.
 
 use crate::compare::{difference, Difference, Outcome, Tally};
+use crate::sides::Sides;
 use crate::Options;
 use common::random::Random;
-use heads::cases;
 use heads::library::{self, blank, Tape, Touched, LONGEST_TAPE, RECORD};
-use heads::records::{about, by_chance, good};
+use heads::records::{about, good, with_short_frames};
 use heads::writes::{Fields, Table, MOST_FIELDS, TABLES};
-use oracle::answers;
+use heads::{cases, reference};
 
 /// How many writes were compared.
 #[derive(Default)]
@@ -17,11 +17,14 @@ pub struct Writes {
     pub rewritten: u64,
     /// By table and number; number 0 is a head that was written.
     pub answers: [[u64; 14]; 4],
+    /// Of the heads that were to be written, but for those that 13 or 12 refused.
+    pub sides: Sides,
 }
 
 impl Writes {
     pub fn add(&mut self, other: &Writes) {
         self.rewritten += other.rewritten;
+        self.sides.add(&other.sides);
         for (sums, numbers) in self.answers.iter_mut().zip(other.answers) {
             sums.iter_mut().zip(numbers).for_each(|(sum, n)| *sum += n);
         }
@@ -76,7 +79,7 @@ impl Tally {
         let expected = table
             .write(fields, &mut tape[..room], at)
             .map_err(|contradiction| wrong(table, fields, room, at, &contradiction))?;
-        let number = expected.err().unwrap_or(0);
+        let number = expected.answer.err().unwrap_or(0);
         if library != Ok((number, tape)) {
             let what = format!("the library {}; expected {number}", words(&library));
             return Err(wrong(table, fields, room, at, &what));
@@ -84,6 +87,7 @@ impl Tally {
         if number == 0 {
             self.read_back(table, fields, &tape[at as usize..room])?;
         }
+        self.writes.sides.count(expected.side);
         self.writes.answers[table as usize][number as usize] += 1;
         Ok(number)
     }
@@ -91,12 +95,14 @@ impl Tally {
     /// What was written reads, in MPEG audio by the chart too, and has these fields.
     fn read_back(&mut self, table: Table, fields: &Fields, head: &[u8]) -> Outcome {
         let code = table.code();
-        let read = answers::read(code, head);
-        if read.is_none() || library::read_guarded(code, head, RECORD) != Ok(read.ok_or(0)) {
+        let read = reference::head(code, head)
+            .map_err(|contradiction| difference(code, head, &contradiction))?
+            .answer;
+        if read.is_err() || library::read_guarded(code, head, RECORD) != Ok(read) {
             return Err(difference(code, head, "what was written does not read"));
         }
         if table == Table::Mpeg {
-            self.chart(head, RECORD, read.ok_or(0))?;
+            self.chart(head, RECORD, read)?;
         }
         if table.read(head) != *fields {
             let what = format!("other fields are read than were written, {fields:?}");
@@ -229,7 +235,7 @@ pub fn random_records(tally: &mut Tally, options: &Options) -> Outcome {
     let mut random = Random::new(options.seed);
     for _ in 0..options.random / 4 {
         let table = random.pick(&TABLES);
-        let fields = by_chance(table, &mut random);
+        let fields = with_short_frames(table, &mut random);
         write_any(tally, table, &fields, &mut random)?;
     }
     match tally.writes.unseen() {

@@ -1,6 +1,7 @@
 //! Asks the program `head` many lines of every kind over pipes, and compares each answer with the
-//! references: the Rust module, the number table, the second definition of a skip. It stops with
-//! status 1 at the first difference, or where a kind of line never came.
+//! references: the Rust module as requested, inside the domain of equality the unchanged one too, the
+//! number table, the second definition of a skip. It stops with status 1 at the first difference, or
+//! where a kind of line never came.
 
 mod malformed;
 mod questions;
@@ -9,6 +10,8 @@ mod tally;
 use common::asking::{self, Pieces};
 use common::counts::Counts;
 use common::random::Random;
+use heads::cases;
+use oracle::domain;
 use questions::{Question, Questions};
 use std::error::Error;
 use std::io::{self, BufRead, Write};
@@ -32,6 +35,9 @@ fn main() -> ExitCode {
         eprintln!("{USAGE}");
         return ExitCode::from(2);
     };
+    if let Err(what) = domain::cases::check().and_then(|()| cases::check_head_lengths()) {
+        return asking::verdict(Err(what));
+    }
     match asking::start(&mut Command::new(&options.program)) {
         Ok(program) => asking::verdict(replay(program, &options)),
         Err(error) => {
@@ -80,8 +86,8 @@ fn compare(mut answers: impl BufRead, options: &Options) -> Result<Counts, Box<d
         let expected = question.line.answer().map_err(|what| at(n, &question, &what))?;
         answer.clear();
         answers.read_until(b'\n', &mut answer)?;
-        if answer.strip_suffix(b"\n") != Some(expected.as_bytes()) {
-            return Err(wrong_answer(n, &question, &answer, &expected).into());
+        if answer.strip_suffix(b"\n") != Some(expected.text.as_bytes()) {
+            return Err(wrong_answer(n, &question, &answer, &expected.text).into());
         }
         tally::count(&mut counts, &question.line, &expected);
     }

@@ -9,10 +9,10 @@ use heads::writes::TABLES;
 type Way = fn(&mut Random) -> Vec<u8>;
 
 /// The ways by name.
-pub const WAYS: [(&str, Way); 24] = [
+pub const WAYS: [(&str, Way); 26] = [
     ("empty", |_| Vec::new()),
     ("any bytes", any_bytes),
-    ("other letter", |random| [&[random.pick(b"DSWabefrtxz")], &b" 2 77"[..]].concat()),
+    ("other letter", |random| [&[random.pick(b"DHMSWabefrtxz")], &b" 2 77"[..]].concat()),
     ("letters alone", letters_alone),
     ("no space after the letter", no_space_after_the_letter),
     ("space before", |random| [b" ", &well_formed(random)[..]].concat()),
@@ -39,8 +39,10 @@ pub const WAYS: [(&str, Way); 24] = [
     }),
     ("two spaces", two_spaces),
     ("code behind the letter m", |random| [b"m ", &by_code(random)[..]].concat()),
+    ("code behind the letter h", |random| [b"h ", &by_code(random)[..]].concat()),
     ("no space behind a byte", no_space_behind_a_byte),
-    ("capital M", |random| [b"M", &by_chart(random)[1..]].concat()),
+    ("capital M", |random| [b"M", &by_letter(random)[1..]].concat()),
+    ("capital H", |random| [b"H", &by_letter(random)[1..]].concat()),
 ];
 
 /// A malformed line; each way comes as often as the others.
@@ -54,13 +56,14 @@ fn bytes(count: usize, random: &mut Random) -> Vec<u8> {
     (0..count).map(|_| random.word() as u8).collect()
 }
 
-/// A head, by its code or by the chart, or a skip, with so many bytes.
+/// A head, by its code or a letter, or a skip, with so many bytes.
 fn coded(count: usize, random: &mut Random) -> Vec<u8> {
     let code = random.below(4) as u32;
     let bytes = bytes(count, random);
-    let line = match random.below(3) {
+    let line = match random.below(4) {
         0 => Line::Head(code, bytes),
         1 => Line::Skip(code, bytes),
+        2 => Line::HeadLength(bytes),
         _ => Line::Chart(bytes),
     };
     line.text()
@@ -72,9 +75,10 @@ fn by_code(random: &mut Random) -> Vec<u8> {
     Line::Head(code, bytes(random.below(9) as usize, random)).text()
 }
 
-/// A head by the chart, with at least two bytes.
-fn by_chart(random: &mut Random) -> Vec<u8> {
-    Line::Chart(bytes(2 + random.below(39) as usize, random)).text()
+/// A head by the letter m or h, with at least two bytes.
+fn by_letter(random: &mut Random) -> Vec<u8> {
+    let line = random.pick(&[Line::Chart, Line::HeadLength]);
+    line(bytes(2 + random.below(39) as usize, random)).text()
 }
 
 /// A head to be written.
@@ -107,10 +111,11 @@ fn a_field_less_or_more(random: &mut Random) -> Vec<u8> {
     }
 }
 
-/// Letters without what has to stand behind them. The letter m alone is a head without bytes.
+/// Letters without what has to stand behind them. The letters m and h alone are heads without bytes.
 fn letters_alone(random: &mut Random) -> Vec<u8> {
     let letters = ["d", "s", "w", "d ", "s ", "w ", "m ", "ds", "s s", "mm", "m m", "sm"];
-    random.pick(&letters).into()
+    let further = ["h ", "hh", "h h", "sh", "mh", "hm", "h m"];
+    random.pick(&[&letters[..], &further].concat()).into()
 }
 
 /// A duration, a head to be written, or a head or a skip with at least one byte.
@@ -124,7 +129,7 @@ fn well_formed(random: &mut Random) -> Vec<u8> {
 
 /// Bytes of which the first begins no line.
 fn any_bytes(random: &mut Random) -> Vec<u8> {
-    let mut text = vec![random.pick(b" !/:?@ADFMSZ`aceflntz\0\r\x7F\x80\xFF")];
+    let mut text = vec![random.pick(b" !/:?@ADFHMSZ`acefgilntz\0\r\x7F\x80\xFF")];
     let more = (0..random.below(700)).map(|_| random.word() as u8);
     text.extend(more.filter(|&byte| byte != b'\n'));
     text
@@ -135,7 +140,7 @@ fn no_space_after_the_letter(random: &mut Random) -> Vec<u8> {
     let mut text = match random.below(4) {
         0 => Line::Skip(number, vec![0x0B, 0x77]).text(),
         1 => Line::Duration(number, 48_000).text(),
-        2 => by_chart(random),
+        2 => by_letter(random),
         _ => written(random),
     };
     text.remove(1);
@@ -194,9 +199,9 @@ fn two_spaces(random: &mut Random) -> Vec<u8> {
     text
 }
 
-/// A head by the chart with no space between two of its bytes. Behind a code it could be another code.
+/// A head by a letter with no space between two of its bytes. Behind a code it could be another code.
 fn no_space_behind_a_byte(random: &mut Random) -> Vec<u8> {
-    let mut text = by_chart(random);
+    let mut text = by_letter(random);
     let bytes = text.len() as u64 / 3;
     text.remove(1 + 3 * (1 + random.below(bytes - 1) as usize));
     text

@@ -1,5 +1,5 @@
-//! The lines that the replay asks: heads, by the chart too, skips, durations, heads to be written and
-//! malformed lines, by chance.
+//! The lines that the replay asks: heads, by the chart too, lengths of ADTS heads, skips, durations,
+//! heads to be written and malformed lines, by chance.
 
 use crate::malformed;
 use common::random::Random;
@@ -39,13 +39,14 @@ impl Iterator for Questions {
     fn next(&mut self) -> Option<Question> {
         self.left = self.left.checked_sub(1)?;
         let random = &mut self.random;
-        let line = match random.below(28) {
+        let line = match random.below(31) {
             _ if self.left == 0 => head(random),
             0..=7 => head(random),
             8..=11 => skip(random),
             12..=13 => duration(random),
             14..=21 => write(random),
             22..=25 => Line::Chart(part_of_frame(random.pick(&[3, 4, 5]), random)),
+            26..=28 => Line::HeadLength(part_of_frame(6, random)),
             _ => malformed::line(random),
         };
         let mut text = line.text();
@@ -80,9 +81,9 @@ fn part_of_frame(kind: u32, random: &mut Random) -> Vec<u8> {
 /// A head that reads, a damaged one, or random bytes.
 fn start_of_frame(kind: u32, random: &mut Random) -> Bytes {
     match random.below(8) {
-        // Frame lengths about the least ones of ADTS: chance alone gives too few of them.
-        0 if kind == 6 => {
-            samples::with_fields(samples::good(6, random), &[(30, 13, random.below(16))])
+        // Frame lengths about the least ones of ADTS, 7 to 15: chance alone gives too few of them.
+        0..=1 if kind == 6 => {
+            samples::with_fields(samples::good(6, random), &[(30, 13, random.below(18))])
         }
         0..=3 => samples::good(kind, random),
         4..=5 => samples::damaged(kind, random),
@@ -123,7 +124,7 @@ fn duration(random: &mut Random) -> Line {
 /// A head to be written: mostly one that fits and has room.
 fn write(random: &mut Random) -> Line {
     let table = random.pick(&TABLES);
-    let fields = records::by_chance(table, random);
+    let fields = records::with_short_frames(table, random);
     let room = random.below(MOST_BYTES as u64 + 1);
     let at = match random.below(8) {
         0 => random.word() >> random.below(64),
@@ -141,12 +142,12 @@ fn code_or_other(code: u32, random: &mut Random) -> u32 {
 }
 
 /// Another spelling of the same line, by chance: small letters, or zeros in front of its first number
-/// of 32 bits, which may have ten digits. A line by the chart has no number.
+/// of 32 bits, which may have ten digits. A line of the letter m or h has none.
 fn respell(text: &mut Vec<u8>, random: &mut Random) {
     if random.below(4) == 0 {
         text.make_ascii_lowercase();
     }
-    if text[0] != b'm' && random.below(16) == 0 {
+    if !matches!(text[0], b'm' | b'h') && random.below(16) == 0 {
         // Behind the letter w, a table's word and a place come first.
         let words = if text[0] == b'w' { 3 } else { 0 };
         let first =

@@ -2,14 +2,17 @@
 
 use crate::malformed::WAYS;
 use common::counts::{group, Counts};
-use heads::line::Line;
+use heads::line::{Line, Reply};
+use heads::reference::Side;
 
 /// The kinds of lines but for the malformed ones: groups, and what is told apart in each.
-const GROUPS: [(&str, &[&str]); 13] = [
+const GROUPS: [(&str, &[&str]); 18] = [
     ("heads read, kind", &["1", "2", "3", "4", "5", "6"]),
     ("heads refused, number", &["1", "2", "3", "4", "5", "6", "7"]),
     ("heads read by the chart, kind", &["3", "4", "5"]),
     ("heads refused by the chart, number", &["1", "2", "3", "4", "5"]),
+    ("lengths of ADTS heads, bytes", &["7", "9", "11", "13", "15"]),
+    ("lengths of ADTS heads refused, number", &["1", "2", "3", "4", "6"]),
     ("skips to a sync word, code", &["0", "1", "2"]),
     ("skips to the last byte, code", &["0", "1", "2"]),
     ("skips refused, number", &["7"]),
@@ -19,7 +22,13 @@ const GROUPS: [(&str, &[&str]); 13] = [
     (NOT_WRITTEN[1], &["2", "3", "4", "12", "13"]),
     (NOT_WRITTEN[2], &["2", "3", "4", "5", "12", "13"]),
     (NOT_WRITTEN[3], &["2", "3", "4", "6", "12", "13"]),
+    ("heads by the domain", SIDES),
+    ("lengths of ADTS heads by the domain", SIDES),
+    ("heads to be written by the domain", SIDES),
 ];
+
+/// Inside the domain the answer is compared with both modules, outside with the one as requested alone.
+const SIDES: &[&str] = &["inside", "outside"];
 
 /// Groups of heads that are not written, by table.
 const NOT_WRITTEN: [&str; 4] = [
@@ -40,9 +49,21 @@ pub fn none() -> Counts {
 }
 
 /// Counts a line that got the answer that it had to get.
-pub fn count(counts: &mut Counts, line: &Line, answer: &str) {
-    let (group, name) = kind(line, answer);
+pub fn count(counts: &mut Counts, line: &Line, answer: &Reply) {
+    let (group, name) = kind(line, &answer.text);
     counts.add(group, name, 1);
+    if let Some(side) = answer.side {
+        counts.add(by_domain(line), SIDES[usize::from(side == Side::Outside)], 1);
+    }
+}
+
+/// The group of a line about a head in which the sides of the domain are told apart.
+fn by_domain(line: &Line) -> &'static str {
+    match line {
+        Line::HeadLength(_) => "lengths of ADTS heads by the domain",
+        Line::Write(..) => "heads to be written by the domain",
+        _ => "heads by the domain",
+    }
 }
 
 /// The group of a line, and its name there.
@@ -52,6 +73,10 @@ fn kind(line: &Line, answer: &str) -> (&'static str, String) {
         (Line::Head(..), Some(number)) => ("heads refused, number", number.into()),
         (Line::Chart(..), None) => ("heads read by the chart, kind", answer[..1].into()),
         (Line::Chart(..), Some(number)) => ("heads refused by the chart, number", number.into()),
+        (Line::HeadLength(_), None) => ("lengths of ADTS heads, bytes", answer.into()),
+        (Line::HeadLength(_), Some(number)) => {
+            ("lengths of ADTS heads refused, number", number.into())
+        }
         (Line::Skip(..), Some(number)) => ("skips refused, number", number.into()),
         (Line::Skip(code, bytes), None) if answer == last_place(bytes) => {
             ("skips to the last byte, code", code.to_string())

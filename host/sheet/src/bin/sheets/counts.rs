@@ -2,19 +2,22 @@
 
 use crate::feed::Feed;
 use common::counts::{self, group};
-use oracle::answers;
+use oracle::domain::Asked;
 use sheet::inputs::demo::{self, Demo};
 use sheet::inputs::input::{Input, STREAMS};
 use sheet::inputs::long::SORTS;
 use sheet::inputs::{edges, first_lines, large};
+use sheet::inside::Inside;
+use sheet::requested::answers;
 use std::collections::BTreeMap;
 use std::fmt;
 use std::ops::Range;
 
-/// What must be seen: groups, and what is told apart in each.
+/// What must be seen: groups, and what is told apart in each. No sheet flushes, so that none leaves
+/// the domain there.
 #[rustfmt::skip]
-const GROUPS: [(&str, &[&str]); 11] = [
-    ("inputs", &["spelled out", "every first byte, every second byte", edges::ENDS, edges::BEGINNINGS]),
+const GROUPS: [(&str, &[&str]); 14] = [
+    ("inputs", &["spelled out", "every first byte, every second byte", edges::ENDS, edges::BEGINNINGS, edges::OUTSIDE]),
     ("inputs handed over", &["whole", "in pieces", "slowly", "as a file"]),
     ("first payloads", &["none", "taken", "not taken", "not taken, but a later one"]),
     ("sheets", &["question mark", "with frames", "without frames", "bytes discarded", "none discarded", "bytes pending", "none pending"]),
@@ -25,6 +28,9 @@ const GROUPS: [(&str, &[&str]); 11] = [
     ("frames, channels", &["0", "1", "2", "3", "4", "5", "6", "8"]),
     ("frames, bit rate", &["absent", "present"]),
     ("frames, stamp", &["absent", "0", "below 2^32", "2^32 or more"]),
+    ("sheets, domain", &["inside", "outside from the first payload on", "outside from a later one on"]),
+    ("frames, domain", &["inside", "outside"]),
+    ("domain left at", &[Asked::NAMES[0], Asked::NAMES[1], Asked::NAMES[2]]),
 ];
 
 /// How long a frame's line is.
@@ -62,7 +68,7 @@ impl Counts {
     }
 
     /// Counts an input whose sheet was the expected one.
-    pub fn count(&mut self, input: &Input, feed: Feed, sheet: &[u8]) {
+    pub fn count(&mut self, input: &Input, feed: Feed, sheet: &[u8], inside: &Inside) {
         self.sheets += 1;
         self.add(input.sort.0, input.sort.1, 1);
         self.add("inputs handed over", feed.name(), 1);
@@ -75,6 +81,7 @@ impl Counts {
         self.stream(input, !frames.is_empty());
         self.frames(frames);
         self.end(end);
+        self.domain(frames.len() / LINE, inside);
     }
 
     fn stream(&mut self, input: &Input, has_frames: bool) {
@@ -119,6 +126,20 @@ impl Counts {
         for (number, [none, some]) in numbers.into_iter().zip(names) {
             self.add("sheets", if number == "0" { none } else { some }, 1);
         }
+    }
+
+    /// Frames' lines that had to be the unchanged module's too are inside.
+    fn domain(&mut self, frames: usize, inside: &Inside) {
+        let frames_inside = inside.sheet.len() / LINE;
+        let side = match (inside.left, inside.payloads) {
+            (None, _) => "inside",
+            (Some(_), 0) => "outside from the first payload on",
+            (Some(_), _) => "outside from a later one on",
+        };
+        self.add("sheets, domain", side, 1);
+        self.add("frames, domain", "inside", frames_inside as u64);
+        self.add("frames, domain", "outside", (frames - frames_inside) as u64);
+        inside.left.iter().for_each(|asked| self.add("domain left at", asked.name(), 1));
     }
 
     fn add(&mut self, group: &'static str, name: &str, times: u64) {

@@ -1,15 +1,19 @@
 //! Runs a program, `cutsheet` or another in its place, on many inputs, and compares what it prints
-//! with the sheet that the Rust module's frames make, byte for byte. It stops with status 1 at the
-//! first difference, or where something that should be seen never was.
+//! with the sheet that the Rust module's frames make, byte for byte: those of the module as requested,
+//! and as far as the run is inside the domain of equality those of the unchanged one as well. It
+//! stops with status 1 at the first difference, or where something that should be seen never was.
 
 mod counts;
 mod feed;
 
 use counts::Counts;
 use feed::{Feed, Printed};
+use oracle::domain;
 use sheet::inputs::demo;
 use sheet::inputs::input::{self, Input};
-use sheet::{cases, digits, model, text};
+use sheet::inside::Inside;
+use sheet::requested::{self, model, text};
+use std::error::Error;
 use std::process::ExitCode;
 use std::time::Instant;
 use std::{fs, io};
@@ -82,28 +86,38 @@ fn verdict(counts: &Counts, start: Instant) -> ExitCode {
 }
 
 fn run_all(command: &[String], count: u64, seed: u64) -> Result<Counts, Stop> {
-    for line in [text::line, digits::line] {
-        cases::check(line).map_err(|error| Stop::Difference(error.to_string()))?;
-    }
+    check_by_hand().map_err(|error| Stop::Difference(error.to_string()))?;
     let demos = demo::streams(DEMO)?;
     let mut counts = Counts::new(&demos);
     for (n, input) in (1..).zip(input::all(count, seed, &demos)) {
         let mut random = input::random(!seed, n);
         let feed = Feed::by_chance(&mut random);
         let printed = feed::run(command, &input.bytes, feed, random.word())?;
-        let expected = expected(&input)?;
-        if let Some(what) = difference(&printed, &expected) {
+        let (expected, inside) = (expected(&input)?, Inside::of(&input.bytes)?);
+        if let Some(what) = difference(&printed, &expected, &inside) {
             fs::write(DIFFERENCE, &input.bytes)?;
             let (group, name) = input.sort;
             let input = format!("input {n} ({group}: {name}; {})", feed.name());
             return Err(Stop::Difference(format!("seed {seed}, {input}, {what}")));
         }
-        counts.count(&input, feed, &expected);
+        counts.count(&input, feed, &expected, &inside);
     }
     Ok(counts)
 }
 
-/// The sheet that is spelled out, or else the model's.
+/// Holds the models of both modules, their lines and the domain to what was worked out by hand.
+fn check_by_hand() -> Result<(), Box<dyn Error>> {
+    domain::cases::check()?;
+    for line in [sheet::text::line, sheet::digits::line] {
+        sheet::cases::check(line)?;
+    }
+    for line in [requested::text::line, requested::digits::line] {
+        requested::cases::check(line)?;
+    }
+    Ok(())
+}
+
+/// The sheet as requested: the one that is spelled out, or else the model's.
 fn expected(input: &Input) -> io::Result<Vec<u8>> {
     let mut sheet = Vec::new();
     match input.spelled {
@@ -114,18 +128,25 @@ fn expected(input: &Input) -> io::Result<Vec<u8>> {
 }
 
 /// The first line that differs, or how the program ended.
-fn difference(printed: &Printed, expected: &[u8]) -> Option<String> {
+fn difference(printed: &Printed, expected: &[u8], inside: &Inside) -> Option<String> {
     let Printed { text, status } = printed;
-    if text != expected {
-        let mut ours = text.split_inclusive(|byte| *byte == b'\n');
-        let mut right = expected.split_inclusive(|byte| *byte == b'\n');
-        let lines = std::iter::repeat_with(|| (ours.next(), right.next()));
-        let (n, (ours, right)) = (1..).zip(lines).find(|(_, (ours, right))| ours != right)?;
-        let (ours, right) = (shown(ours), shown(right));
-        return Some(format!("line {n}: the program prints {ours}, expected {right}"));
+    let ended = || format!("the sheet is right, but the program ends with {status}");
+    different_line(text, "the module as requested", expected)
+        .or_else(|| different_line(inside.part_of(text), "the unchanged module", &inside.sheet))
+        .or_else(|| (!status.success()).then(ended))
+}
+
+/// The first line that is not the one of that module.
+fn different_line(printed: &[u8], module: &str, right: &[u8]) -> Option<String> {
+    if printed == right {
+        return None;
     }
-    let ended = format!("the sheet is right, but the program ends with {status}");
-    (!status.success()).then_some(ended)
+    let mut ours = printed.split_inclusive(|byte| *byte == b'\n');
+    let mut right = right.split_inclusive(|byte| *byte == b'\n');
+    let lines = std::iter::repeat_with(|| (ours.next(), right.next()));
+    let (n, (ours, right)) = (1..).zip(lines).find(|(_, (ours, right))| ours != right)?;
+    let (ours, right) = (shown(ours), shown(right));
+    Some(format!("line {n}: the program prints {ours}, {module} {right}"))
 }
 
 /// A line with its line feed, shortened where it is too long for any sheet.

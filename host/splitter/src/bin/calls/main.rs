@@ -4,14 +4,18 @@
 //!   calls INPUTS ANSWERS
 //!
 //! In this order: document 01's S1 to S8; its small inputs of numbers 7 to 12; the order of the
-//! numbers; the first of its four wrong turns (the others are S4, S5 and S2); the readings; malformed
-//! lines; short streams cut in two and three; streams and states by chance. Answers written by hand
-//! from the document are held to the model's, and nothing is written where they differ.
+//! numbers; the first of its four wrong turns (the others are S4, S5 and S2); the readings; what
+//! request K3 changed; malformed lines; short streams cut in two and three; streams and states by
+//! chance. The answers are those of the module as requested. Answers written by hand are held to
+//! them, and inside the domain of equality to the unchanged module's, and nothing is written where
+//! they differ.
 
 mod cases;
+mod changes;
 
 use cases::{Case, CORNERS, NUMBERS, ORDER, READINGS};
 use cases::{LAST_STAMP, STEPS, STEP_BYTES, STEP_HEAD, STEP_START};
+use changes::{Changed, K3};
 use common::random::Random;
 use common::soup::{stream, Sort};
 use splitter::call::Call;
@@ -19,10 +23,11 @@ use splitter::calls::malformed::WAYS;
 use splitter::calls::talk::{Exchange, Talk};
 use splitter::calls::{short, states};
 use splitter::model::Model;
+use splitter::oracles::{Answers, Oracles};
 use std::process::ExitCode;
 
 /// One of so many short streams is stored.
-const EVERY_SHORT: usize = 701;
+const EVERY_SHORT: usize = 941;
 
 /// Sequences by chance: so many, none of them longer than this as text.
 const BY_CHANCE: usize = 48;
@@ -31,7 +36,7 @@ const MOST_TEXT: usize = 2_400;
 /// The lines so far and their answers.
 #[derive(Default)]
 struct List {
-    model: Model,
+    oracles: Oracles,
     lines: Vec<String>,
     answers: Vec<String>,
 }
@@ -57,7 +62,8 @@ fn write(inputs: &str, answers: &str) -> Result<(), String> {
     cases.into_iter().try_for_each(|case| list.case(case))?;
     list.steps()?;
     READINGS.iter().try_for_each(|case| list.case(case))?;
-    WAYS.iter().flat_map(|(_, lines)| *lines).for_each(|line| list.ask(line));
+    K3.iter().try_for_each(|case| list.changed(case))?;
+    WAYS.iter().flat_map(|(_, lines)| *lines).for_each(|line| drop(list.ask(line)));
     list.short_streams();
     list.by_chance();
     let text = |lines: &[String]| lines.iter().map(|line| format!("{line}\n")).collect::<String>();
@@ -67,23 +73,40 @@ fn write(inputs: &str, answers: &str) -> Result<(), String> {
 }
 
 impl List {
-    fn ask(&mut self, line: &str) {
-        let call = Call::parse(line).unwrap_or(Call::Malformed("", String::new()));
-        self.answers.push(self.model.answer(&call).text());
+    fn ask(&mut self, line: &str) -> Answers {
+        let answers = self.oracles.answer(&call(line));
+        self.answers.push(answers.requested.text());
         self.lines.push(line.into());
+        answers
     }
 
     /// A case written by hand. Its answers must begin as the document says.
     fn case(&mut self, case: &Case) -> Result<(), String> {
         for (line, says) in case.turns {
-            self.ask(line);
-            let answer = self.answers.last().expect("the answer to the line");
-            if !answer.starts_with(says) || (says.ends_with('=') && answer != says) {
-                let name = case.name;
-                return Err(format!("{name}: '{line}': '{says}' by hand, the model '{answer}'"));
+            let answers = self.ask(line);
+            for (module, answer) in answers.by_module() {
+                same(case.name, line, says, module, &answer.text())?;
             }
         }
         Ok(())
+    }
+
+    /// A case that a request changed, with the answers from before and from now on. It must leave
+    /// the domain where it says so.
+    fn changed(&mut self, case: &Changed) -> Result<(), String> {
+        let mut unchanged = Model::default();
+        let mut left = None;
+        for (line, before, now) in case.turns {
+            let answers = self.ask(line);
+            same(case.name, line, now, "as requested", &answers.requested.text())?;
+            let answer = unchanged.answer(&call(line)).text();
+            same(case.name, line, before.unwrap_or(now), "unchanged", &answer)?;
+            left = left.or(answers.left);
+        }
+        match left == case.left {
+            true => Ok(()),
+            false => Err(format!("{}: leaves the domain at {left:?}", case.name)),
+        }
     }
 
     /// The wrong turn of added durations: many frames at 44100 Hz, the last stamp by hand.
@@ -133,12 +156,25 @@ impl List {
     }
 
     fn add(&mut self, exchanges: Vec<Exchange>) {
-        exchanges.iter().for_each(|exchange| self.ask(&exchange.call.text()));
+        exchanges.iter().for_each(|exchange| drop(self.ask(&exchange.call.text())));
+    }
+}
+
+fn call(line: &str) -> Call {
+    Call::parse(line).unwrap_or(Call::Malformed("", String::new()))
+}
+
+/// An answer must begin as it was written by hand, and where that is whole it must be that.
+fn same(case: &str, line: &str, says: &str, module: &str, answer: &str) -> Result<(), String> {
+    match answer.starts_with(says) && (!says.ends_with('=') || answer == says) {
+        true => Ok(()),
+        false => Err(format!("{case}: '{line}': '{says}' by hand, {module} '{answer}'")),
     }
 }
 
 /// Bytes of all lines and answers.
 fn text_len(exchanges: &[Exchange]) -> usize {
-    let one = |exchange: &Exchange| exchange.call.text().len() + exchange.answer.text().len();
+    let answer = |exchange: &Exchange| exchange.answers.requested.text();
+    let one = |exchange: &Exchange| exchange.call.text().len() + answer(exchange).len();
     exchanges.iter().map(one).sum()
 }

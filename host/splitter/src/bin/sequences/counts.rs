@@ -1,15 +1,18 @@
 //! How many calls of each kind were compared, and what they did.
 
 use common::counts::{self, group};
+use oracle::domain::Asked;
 use splitter::answer::{Answer, Outcome};
 use splitter::call::{Call, Lent};
 use splitter::calls::malformed::WAYS;
 use splitter::calls::talk::Exchange;
+use splitter::oracles::Answers;
 use splitter::state::State;
 use std::fmt;
 
-/// What must be seen: groups, and what is told apart in each.
-const GROUPS: [(&str, &[&str]); 19] = [
+/// What must be seen: groups, and what is told apart in each. Calls outside the domain of equality
+/// are compared with the module as requested alone.
+const GROUPS: [(&str, &[&str]); 23] = [
     ("calls", &["new", "set", "push", "flush", "reset", "unlock", "malformed"]),
     ("new splitters", &["made", "refused 7"]),
     ("pushes", &["taken", "not taken"]),
@@ -29,7 +32,14 @@ const GROUPS: [(&str, &[&str]); 19] = [
     ("short tails of code 0, bytes", &["1", "2", "3", "4", "5", "6", "7"]),
     ("flushes", &["frame", "no frame", "refused 7", "refused 8", "refused 12"]),
     ("flushed, bytes", &["6", "7", "8190"]),
+    ("calls, domain", SIDES),
+    ("pushes made, domain", SIDES),
+    ("frames, domain", SIDES),
+    ("domain left at", &Asked::NAMES),
 ];
+
+/// Of the domain.
+const SIDES: &[&str] = &["inside", "outside"];
 
 /// What a push leaves pending, by where it begins.
 const TAILS: &[&str] =
@@ -51,8 +61,10 @@ impl Counts {
 
     /// Counts an exchange whose answer was the expected one.
     pub fn count(&mut self, exchange: &Exchange) {
-        let Exchange { call, before, answer } = exchange;
+        let Exchange { call, before, answers } = exchange;
+        let answer = &answers.requested;
         self.add("calls", call_name(call));
+        self.domain(call, answers);
         match call {
             Call::New(_) => self.add("new splitters", outcome_name(answer, ["made", ""])),
             Call::Push(pts, lent, payload) => self.push(*pts, lent, payload.len(), before, answer),
@@ -60,6 +72,17 @@ impl Counts {
             Call::Malformed(way, _) => self.add(MALFORMED, *way),
             Call::Set(..) | Call::Reset | Call::Unlock => {}
         }
+    }
+
+    fn domain(&mut self, call: &Call, answers: &Answers) {
+        let Answers { requested: answer, left, .. } = answers;
+        let side = if answers.is_inside() { "inside" } else { "outside" };
+        self.add("calls, domain", side);
+        if let (Call::Push(..), Outcome::Written | Outcome::Nothing) = (call, &answer.outcome) {
+            self.add("pushes made, domain", side);
+        }
+        self.counts.add("frames, domain", side, answer.rows.len() as u64);
+        left.iter().for_each(|asked| self.add("domain left at", asked.name()));
     }
 
     fn push(&mut self, pts: Option<i64>, lent: &Lent, len: usize, before: &State, answer: &Answer) {

@@ -1,12 +1,14 @@
 //! Asks a program the splitter's calls over pipes, and compares each answer with the one that the
-//! model gives: the Rust module's, with document 01's numbers and lent buffers. It stops with status
-//! 1 at the first difference, or where something that should be seen never was.
+//! model gives: the Rust module's, with document 01's numbers and lent buffers. It is the module as
+//! requested, and where the run is inside the domain of equality the unchanged one as well. It stops
+//! with status 1 at the first difference, or where something that should be seen never was.
 
 mod counts;
 
 use common::asking::{self, Pieces};
 use common::random::Random;
 use counts::Counts;
+use oracle::domain::cases;
 use splitter::answer::Outcome;
 use splitter::call::Call;
 use splitter::calls::sequences::Sequences;
@@ -70,6 +72,7 @@ fn show(sequences: Sequences, seed: u64) -> ExitCode {
 fn ask_all(mut program: Child, sequences: Sequences, seed: u64) -> Result<(), Box<dyn Error>> {
     let start = Instant::now();
     println!("seed {seed}");
+    cases::check()?;
     let (asked, to_compare) = channel();
     let counts = asking::converse(
         &mut program,
@@ -118,7 +121,7 @@ fn ask(
     pieces.end()
 }
 
-/// Holds each answer to the one that is expected.
+/// Holds each answer to those that are expected.
 fn compare(mut answers: impl BufRead, asked: Receiver<Question>) -> Result<Counts, Box<dyn Error>> {
     let mut counts = Counts::new();
     let (mut answer, mut since) = (Vec::new(), Vec::new());
@@ -127,12 +130,14 @@ fn compare(mut answers: impl BufRead, asked: Receiver<Question>) -> Result<Count
             since.clear();
         }
         since.push(line);
-        let expected = exchange.answer.text();
         answer.clear();
         answers.read_until(b'\n', &mut answer)?;
-        if answer.strip_suffix(b"\n") != Some(expected.as_bytes()) {
-            println!("{}", since.join("\n"));
-            return Err(wrong_answer(n, &answer, &expected).into());
+        for (module, expected) in exchange.answers.by_module() {
+            let expected = expected.text();
+            if answer.strip_suffix(b"\n") != Some(expected.as_bytes()) {
+                println!("{}", since.join("\n"));
+                return Err(wrong_answer(n, &answer, module, &expected).into());
+            }
         }
         counts.count(&exchange);
     }
@@ -143,11 +148,11 @@ fn compare(mut answers: impl BufRead, asked: Receiver<Question>) -> Result<Count
 /// True where the state does not depend on what was before.
 fn starts_anew(exchange: &Exchange) -> bool {
     let sets_state = matches!(exchange.call, Call::New(_) | Call::Set(..));
-    sets_state && matches!(exchange.answer.outcome, Outcome::Done)
+    sets_state && matches!(exchange.answers.requested.outcome, Outcome::Done)
 }
 
-/// The first part of the answer that is not the expected one.
-fn wrong_answer(n: u64, answer: &[u8], expected: &str) -> String {
+/// The first part of the answer that is not the one of that module.
+fn wrong_answer(n: u64, answer: &[u8], module: &str, expected: &str) -> String {
     let answer = match answer.split_last() {
         None => return format!("line {n}: the program gives no more answers"),
         Some((b'\n', answer)) => String::from_utf8_lossy(answer),
@@ -158,7 +163,7 @@ fn wrong_answer(n: u64, answer: &[u8], expected: &str) -> String {
     let (part, (ours, right)) = different.unwrap_or((&"line", (&answer, expected)));
     let place = ours.bytes().zip(right.bytes()).take_while(|(a, b)| a == b).count();
     let (ours, right) = (around(ours, place), around(right, place));
-    format!("line {n}, {part}: the program says '{ours}', expected '{right}'")
+    format!("line {n}, {part}: the program says '{ours}', {module} '{right}'")
 }
 
 /// A long text about that place only.

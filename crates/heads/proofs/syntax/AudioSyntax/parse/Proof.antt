@@ -23,6 +23,9 @@ enum-told-3 c = search needs
 parse-adts-header-requires : tie.Need-parse-adts-header-requires
 parse-adts-header-requires c κs = search needs
 
+head-requires : tie.Need-head-requires
+head-requires c κs = search needs
+
 returns : tie.Need-returns
 returns c = answered (search as-ac3)
 
@@ -42,6 +45,7 @@ parse-spec =
     parse-mpeg-audio-header-requires
     enum-told-3
     parse-adts-header-requires
+    head-requires
     returns
     returns-2
     returns-3)
