@@ -1,6 +1,6 @@
 // ADTS, ISO/IEC 13818-7.
 ghost use mathlib.Core.Path.{_≡_};
-ghost use Rattle.heads.specs.Numbers.{adtsAnswer};
+ghost use Rattle.heads.specs.Numbers.{adtsAnswer, headAnswer};
 ghost use Rattle.heads.specs.Adts.{adtsReport, adtsHeaderLength, withoutHeader};
 use crate::info::AudioFrameInfo;
 use crate::info::AudioFrameKind;
@@ -44,6 +44,7 @@ impl AdtsHead {
     // What it says of the frame alone, as a head of any syntax does.
     pub fn head(self) -> Head
         ensures { λ r. ⌜ r ≡ withoutHeader self ⌝ }
+        ensures { λ r. ⌜ headAnswer r ≡ headAnswer (withoutHeader self) ⌝ }
     {
         match self {
             AdtsHead::Read { frame, .. } => Head::Read(frame),
@@ -97,8 +98,8 @@ pub fn parse_adts_header(b: &[u8]) -> AdtsHead
     AdtsHead::Read { frame, header_len }
 }
 
-// The bytes of an ADTS head: 7; with a CRC two more, and before it two for the position of each raw block after the
-// first.
+// The bytes of an ADTS head: the seven of the tables; with a CRC two more, and before it two for the position of each
+// raw block after the first (adts_header_error_check).
 fn adts_header_len(protection_absent: u8, raw_blocks: u32) -> usize
     ensures { λ r. ⌜ r ≡ adtsHeaderLength «protection_absent» «raw_blocks» ⌝ }
 {
