@@ -1,9 +1,10 @@
 # shellcheck shell=bash disable=SC2034,SC2154
 # Sourced by the commands: why a stream gives no frames, or not from its first byte on, and what to
-# do about it. $command_typed is this command in a line to type, and $file_typed the stream's file,
-# if it has one.
+# do about it. $command_typed is this command in a line to type, $file_typed the stream's file, if
+# it has one, and $times_typed the times behind it, if the command has any.
 #
-# Whether a part of the stream is sound, the proved program itself is asked.
+# Whether a part of the stream is sound, the proved program that cuts it is asked.
+asked_program=$root/target/bin/cutsheet
 
 # How much of a stream is looked at: many frames of any kind.
 piece=65536
@@ -51,21 +52,29 @@ syntax() {
   printf '%s' "${names[$1]}"
 }
 
+# to_run CODE [FILE]: this command with that code and file, or with standard input, which is - where
+# times stand behind it.
+to_run() {
+  local from=${2-}
+  [ -z "$times_typed" ] || from=${from:--}
+  printf '%s' "$command_typed $1${from:+ $from}$times_typed"
+}
+
 # to_cut FROM BEHIND CODE: the command that cuts the stream without its first FROM bytes and its
 # last BEHIND bytes.
 to_cut() {
-  local from=${file_typed:+ $file_typed} line=''
-  if [ "$1" -gt 0 ]; then line="tail -c +$(($1 + 1))$from | " from=''; fi
-  if [ "$2" -gt 0 ]; then line+="head -c -$2$from | " from=''; fi
-  printf '%s' "$line$command_typed $3$from"
+  local from=$file_typed line=''
+  if [ "$1" -gt 0 ]; then line="tail -c +$(($1 + 1))${from:+ $from} | " from=''; fi
+  if [ "$2" -gt 0 ]; then line+="head -c -$2${from:+ $from} | " from=''; fi
+  printf '%s' "$line$(to_run "$3" "$from")"
 }
 
 # sound_found: the sound of syntax $found begins behind the tags, if there are any.
 sound_found() {
-  local words='To cut the sound alone'
+  local words="To $verb the sound alone"
   if [ $((before + behind)) -eq 0 ]; then
     [ "$found" -ne "$code" ] || { lost_elsewhere; return; }
-    words='To cut it'
+    words="To $verb it"
   fi
   [ "$found" -eq "$code" ] || because "It is $(syntax "$found"), whose code is $found."
   [ "$before" -eq 0 ] || because "${before_tags^} before the first frame."
@@ -79,7 +88,7 @@ lost_elsewhere() {
     "else than sound in it."
   [ -z "$again" ] && [ -z "$ended" ] || return 0
   because "If it ends with a tag, that costs the last frame. A tag ID3v1 has 128 bytes."
-  advise "To cut without the last 128 bytes" "$(to_cut 0 128 "$code")"
+  advise "To $verb without the last 128 bytes" "$(to_cut 0 128 "$code")"
 }
 
 # cut_part CODE FROM [FRONT]: the program over the stream from there on, as much as is looked at,
@@ -93,7 +102,7 @@ cut_part() {
 # probe CODE FROM COUNT [FRONT]: the same with COUNT bytes.
 probe() {
   read -r frames given lost left stamp < <(
-    { printf '%s\n' "$1"; ${4:-true}; bytes "$2" "$3"; } | "$program" 2>/dev/null |
+    { printf '%s\n' "$1"; ${4:-true}; bytes "$2" "$3"; } | "$asked_program" 2>/dev/null |
       awk '/^E/ { print n + 0, sum + 0, $2, $3, n ? stamp : "-"; next }
         { sum += $2; if (!n++) stamp = $8 }'
   )
@@ -139,7 +148,7 @@ sound_within() {
     place=$((before + lost))
     if ! reads "$found" "$place" || [ "$lost" -gt 0 ] || [ "$frames" -lt 2 ]; then continue; fi
     because "$(syntax "$found") begins behind the first $(counted "$place"), which are something else."
-    advise "To cut from there" "$(to_cut "$place" "$behind" "$found")"
+    advise "To $verb from there" "$(to_cut "$place" "$behind" "$found")"
     return
   done
   return 1

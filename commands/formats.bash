@@ -21,7 +21,7 @@ known_format() {
     2e736e64*) encoded 'an AU file' ;;
     2321414d52*) encoded 'an AMR file' ;;
     7ffe8001* | fe7f0180* | 1fffe800* | ff1f00e8*) encoded 'a DTS stream' ;;
-    504b0304* | 1f8b08*) because "It is a packed file (ZIP or gzip): unpack it, and cut what is in it." ;;
+    504b0304* | 1f8b08*) because "It is a packed file (ZIP or gzip): unpack it, and $verb what is in it." ;;
     *) other_sound "$1" || transport_stream "$1" ;;
   esac
 }
@@ -34,8 +34,8 @@ other_sound() {
     56[ef]*) is_latm "$1" && encoded 'AAC in LATM, not in ADTS' ;;
     770b????[0-7]* | 770b????8[0-7]*)
       because "It is AC-3 whose bytes are swapped in pairs."
-      advise "To swap them back and cut" \
-        "dd conv=swab 2>/dev/null${file_typed:+ <$file_typed} | $command_typed 0"
+      advise "To swap them back and $verb" \
+        "dd conv=swab 2>/dev/null${file_typed:+ <$file_typed} | $(to_run 0)"
       ;;
     *) return 1 ;;
   esac
@@ -79,12 +79,12 @@ container() {
 encoded() {
   because "It is $1. What can be cut is AC-3, E-AC-3, MPEG audio and AAC in ADTS." \
     "It has first to be encoded, and what was encoded is then what has to be played."
-  advise "To encode it as AC-3 and cut it" "$(to_encode)"
+  advise "To encode it as AC-3 and $verb it" "$(to_encode)"
 }
 
 to_encode() {
   printf '%s' "ffmpeg -i ${file_typed:-/dev/stdin} -map 0:a:0 -c:a ac3 track.ac3 &&" \
-    " $command_typed 0 track.ac3"
+    " $(to_run 0 track.ac3)"
 }
 
 # copy_out WORDS: how to see which kind of sound it has, and how to copy that out. Some files ffmpeg
@@ -93,15 +93,15 @@ to_encode() {
 copy_out() {
   local from=${file_typed:-/dev/stdin} copy
   if [ -z "$again" ]; then
-    advise "To see how, put it into a file and try that" "cat >track.in && $command_typed $code track.in"
+    advise "To see how, put it into a file and try that" "cat >track.in && $(to_run "$code" track.in)"
     return
   fi
   copy="ffmpeg -i $from -map 0:a:0 -c:a copy"
   advise "$1" \
     "ffprobe -v error -select_streams a:0 -show_entries stream=codec_name -of default=nw=1:nk=1 $from"
-  advise "If that is aac" "$copy track.aac && $command_typed 2 track.aac"
+  advise "If that is aac" "$copy track.aac && $(to_run 2 track.aac)"
   because "If it is ac3, eac3 or mp2, do the same with that word in the place of aac, and code 0, 0 or 1."
   advise "If it is mp3" \
-    "$copy -id3v2_version 0 -write_xing 0 track.mp3 && $command_typed 1 track.mp3"
+    "$copy -id3v2_version 0 -write_xing 0 track.mp3 && $(to_run 1 track.mp3)"
   advise "Any other kind cannot be cut and has first to be encoded" "$(to_encode)"
 }

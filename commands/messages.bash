@@ -2,7 +2,7 @@
 # Sourced by the commands: messages, and the statuses that they end with. $me is the command's name.
 #
 # Statuses: 0 done; 1 something could not be read, written, built or run; 2 wrong usage; 3 the
-# stream has no frame.
+# stream has no frame, or none at a time that was asked for.
 
 # What a command shows of its progress would stand before a message. Those that show none have
 # nothing to stop; the part stream has its own.

@@ -9,6 +9,21 @@
 # So nothing is delayed.
 front=4096
 
+# take_words WORD..: the code of the stream's syntax, into $code, and the words behind it, into the
+# list $arguments. A first -- is none of them.
+take_words() {
+  [ $# -ge 1 ] || misused "which syntax has the stream?"
+  case $1 in
+    0 | ac3) code=0 ;;
+    1 | mpeg) code=1 ;;
+    2 | adts) code=2 ;;
+    *) misused "'$1' is no code: 0 is for AC-3 and E-AC-3, 1 for MPEG audio, 2 for ADTS" ;;
+  esac
+  shift
+  [ "${1-}" != -- ] || shift
+  arguments=("$@")
+}
+
 open_stream() {
   local place
   again='' start=0 first='' taken=0 ended=''
@@ -111,7 +126,7 @@ hex() {
 # While a large file is read, says on a terminal how far it is.
 start_progress() {
   local size place
-  [ -t 2 ] && [ ! -t 1 ] && [ -n "$again" ] || return 0
+  [ -t 2 ] && [ -n "$again" ] || return 0
   size=$(stat -L -c %s "$again" 2>/dev/null) || return 0
   [ "$size" -gt 50000000 ] || return 0
   while sleep 0.5 && kill -0 $$ 2>/dev/null; do

@@ -30,17 +30,17 @@ export -f with_rt
 # called NUMBER: how often rt was, and for this program each time.
 called() {
   [ "$(wc -l <calls)" -eq "$1" ] || fail "rt was called $(wc -l <calls) times, not $1"
-  ! grep -qvx "$me" calls || fail "rt was called for $(paste -sd ' ' calls)"
+  ! grep -qvx "$program_name" calls || fail "rt was called for $(paste -sd ' ' calls)"
 }
 
 # A copy of the command with crates of its own, all of them older than the program. Which crates a
 # program has does not matter here, so each has the same.
 with_crates() {
-  local crates=(heads splitter sheet "$me" text head) crate
+  local crates=(heads splitter sheet "$program_name" text head) crate
   copied
   cp "$program" copy/target/bin
   printf '%s\n' '# Each crate.' 'heads:' 'splitter: heads # a layer below' 'sheet :splitter' \
-    "$me: sheet io libc" 'text: io' >copy/crates.txt
+    "$program_name: sheet io libc" 'text: io' >copy/crates.txt
   printf 'head: text heads' >>copy/crates.txt
   mkdir copy/target/stamp
   for crate in "${crates[@]}"; do
@@ -48,7 +48,8 @@ with_crates() {
     touch "copy/crates/$crate"/{src/lib.rt,proofs/Lib.antt,must-fail/one.edit} "copy/target/stamp/$crate"
   done
   find copy -exec touch -d '2 hours ago' {} +
-  touch -d '1 hour ago' "copy/target/bin/$me"
+  touch -d '1 hour ago' "copy/target/bin/$program_name"
+  have_other
 }
 
 part_first_use() {
@@ -63,7 +64,7 @@ part_first_use() {
   good "a second use" with_rt "copy/$me" "${from_input[@]}"
   called 1
   with_crates
-  rm "copy/target/bin/$me"
+  rm "copy/target/bin/$program_name"
   fake_rt "$linking; echo 'fn heads::read: proved'; echo 'rt: heads proved (64 s)'
     echo 'rt: splitter proved (unchanged since it was last proved)'; echo 'rt: ok, 2 crates proved'"
   try "a first use, crate by crate" with_rt "copy/$me" "${from_input[@]}"
@@ -79,16 +80,16 @@ part_first_use() {
 first_use_closed() {
   local way
   for way in closed_input closed_errors closed_input_and_errors; do
-    rm "copy/target/bin/$me"
+    rm "copy/target/bin/$program_name"
     try "a first use, $way" "$way" with_rt "${call[@]}"
     [ "$status" -eq 0 ] || fail "status $status, not 0"
     printed "$right"
   done
   for way in closed_output all_closed; do
-    rm "copy/target/bin/$me"
+    rm "copy/target/bin/$program_name"
     try "a first use, $way" "$way" with_rt "${call[@]}"
     [ "$status" -eq 1 ] || fail "status $status, not 1"
-    cmp -s "copy/target/bin/$me" "$program" || fail "it is not built"
+    cmp -s "copy/target/bin/$program_name" "$program" || fail "it is not built"
   done
 }
 
@@ -102,7 +103,7 @@ rebuilt() {
   said 'the sources are newer than the program'
   printed "$right"
   called 1
-  [ -e "copy/target/stamp/$me" ] || fail "the crate's stamp is gone"
+  [ -e "copy/target/stamp/$program_name" ] || fail "the crate's stamp is gone"
   good "$1, once more" with_rt "${call[@]}"
   called 1
 }
@@ -118,8 +119,8 @@ kept() {
 
 part_rebuilding() {
   # What rt does where no file has another text: nothing. Then the program is as new as it can be.
-  fake_rt "echo 'rt: $me proved (unchanged since it was last proved)'"
-  rebuilt "a source of the program" "crates/$me/src/lib.rt"
+  fake_rt "echo 'rt: $program_name proved (unchanged since it was last proved)'"
+  rebuilt "a source of the program" "crates/$program_name/src/lib.rt"
   rebuilt "a proof two crates below" crates/heads/proofs/Lib.antt
   rebuilt "the list of crates" crates.txt
   rebuilt "a folder out of which a file was taken" crates/splitter/src
@@ -144,11 +145,11 @@ part_rebuilding() {
 # rt takes a crate that it has a stamp of for done, and links nothing.
 part_relinking() {
   with_crates
-  rm "copy/target/bin/$me"
-  fake_rt "if [ -e target/stamp/$me ]; then
-      echo 'rt: $me proved (unchanged since it was last proved)'; exit
+  rm "copy/target/bin/$program_name"
+  fake_rt "if [ -e target/stamp/$program_name ]; then
+      echo 'rt: $program_name proved (unchanged since it was last proved)'; exit
     fi
-    $linking; touch target/stamp/$me"
+    $linking; touch target/stamp/$program_name"
   try "a program that is gone" with_rt "${call[@]}"
   [ "$status" -eq 0 ] || fail "status $status, not 0"
   printed "$right"
@@ -181,7 +182,7 @@ part_unbuildable() {
   said 'no rt' 'older than its sources' 'toolchain'
   bash -c "$(advised)"
   good "the program as it is, by the advice" "${call[@]}"
-  rm "copy/target/bin/$me"
+  rm "copy/target/bin/$program_name"
   bad 1 "no rt" env PATH="$scratch/bare" "copy/$me" "${from_input[@]}"
   said 'no rt' 'is not built' 'toolchain'
   if [ "$(id -u)" -ne 0 ]; then
@@ -204,6 +205,6 @@ part_locking() {
   [ "$status" -eq 0 ] || fail "status $status, not 0"
   printed "$right"
   cmp -s one.out "$right" || fail "the first printed something else"
-  [ "$(paste -sd ' ' calls)" = "$me begin end" ] || fail "built as: $(paste -sd ' ' calls)"
+  [ "$(paste -sd ' ' calls)" = "$program_name begin end" ] || fail "built as: $(paste -sd ' ' calls)"
   said 'another command is building'
 }

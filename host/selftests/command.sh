@@ -9,7 +9,7 @@ wrong() {
   [[ $part == */* ]] || part=cutsheet/$part
   dir=$mutants/$2
   copy_commands "$dir"
-  for file in "$dir"/{cutsheet,chart} "$dir"/commands/*; do
+  for file in "$dir"/{cutsheet,cue,chart} "$dir"/commands/*; do
     [[ $(<"$file") != *"$3"* ]] || found+=("$file")
   done
   [ ${#found[@]} -eq 1 ] || { echo "$2: '$3' stands in ${#found[@]} files" >&2; exit 1; }
@@ -20,8 +20,8 @@ wrong() {
 
 copy_commands() {
   mkdir -p "$1/target/bin"
-  cp -R cutsheet chart commands "$1"
-  cp target/bin/{cutsheet,chart} "$1/target/bin"
+  cp -R cutsheet cue chart commands "$1"
+  cp target/bin/{cutsheet,cuelines,chart} "$1/target/bin"
 }
 
 selftest() {
@@ -37,6 +37,8 @@ selftest() {
   wrong_usage
   wrong_builds
   wrong_charts
+  wrong_times
+  wrong_answers
   wrong_verdicts
   wrong_looks
   wrong_tags
@@ -97,7 +99,7 @@ wrong_reads() {
   wrong descriptors closed-output-written \
     '{ exec 3>&1; } 2>/dev/null || fail "cannot write: standard output is closed"' \
     '{ exec 3>&1; } 2>/dev/null || exec 3>/dev/null'
-  wrong names no-line-feed-behind-the-code "printf '%s\\n' \"\$code\"; hand_on" "printf '%s' \"\$code\"; hand_on"
+  wrong names no-line-feed-behind-the-code "printf '%s\\n' \"\$1\"; hand_on" "printf '%s' \"\$1\"; hand_on"
   wrong streams first-bytes-lost '  printf '"'%b'"' "$first"
 ' ''
   wrong streams first-bytes-of-a-slow-pipe ' iflag=fullblock' ''
@@ -114,10 +116,14 @@ wrong_usage() {
 ' ''
   wrong names help-behind-dashes '      --) return ;;
 ' ''
-  wrong usage two-files '[ $# -le 1 ] || misused "one stream at a time"' 'true'
+  wrong usage two-files '[ ${#arguments[@]} -le 1 ] || misused "one stream at a time"' 'true'
   wrong places no-symbolic-links '[ ! -L "$root" ] ||' 'true ||'
   wrong tag_names no-folder-but-this 'case $root in */*) root=${root%/*} ;; *) root=. ;; esac' 'root=${root%/*}'
-  wrong help no-endings '.mp1 .mp2 .mp3 .mpa .m2a' '.mp3'
+  wrong help no-endings '.mp1 .mp2 .mp3 .mpa .m2a
+          2 or adts   AAC in ADTS                         .aac .adts
+  FILE    the stream. - stands for standard input, and' '.mp3
+          2 or adts   AAC in ADTS                         .aac .adts
+  FILE    the stream. - stands for standard input, and'
   wrong help no-status-3 '3 the stream has' '4 the stream has'
   wrong cues cue-behind-the-end 'print (cue < end ? frame : "no frame at " cue)' 'print frame'
   wrong cues end-without-the-rate '$4 * 90000 / $5' '$4'
@@ -200,6 +206,119 @@ here=$(readlink -f -- "${BASH_SOURCE[0]}")' 'me=chart
 here=${BASH_SOURCE[0]}'
   wrong chart/first_use program-of-another-command 'ensure_built chart' 'ensure_built cutsheet'
   wrong chart/turns lock-for-each-program 'exec {lock}>>"$lock_file"' 'exec {lock}>>"$lock_file-$program_name"'
+}
+
+wrong_times() {
+  wrong cue/clock rounded-up 'billionths * 90000 / 1000000000' \
+    '(billionths * 90000 + 999999999) / 1000000000'
+  wrong cue/clock rounded-to-the-nearest 'billionths * 90000 / 1000000000' \
+    '(billionths * 90000 + 500000000) / 1000000000'
+  wrong cue/clock parts-of-a-second-lost ' + billionths * 90000 / 1000000000' ''
+  wrong cue/clock digits-behind-the-point-as-a-number '${BASH_REMATCH[5]}000000000' \
+    '000000000${BASH_REMATCH[5]}'
+  wrong cue/clock seconds-of-1000-ticks '+ seconds) * 90000 +' '+ seconds) * 1000 +'
+  wrong cue/clock hours-of-100-minutes 'ticks=$(((hours * 3600' 'ticks=$(((hours * 6000'
+  wrong cue/clock hours-and-minutes-exchanged 'hours=$((10#0${BASH_REMATCH[1]})) minutes=' \
+    'minutes=$((10#0${BASH_REMATCH[1]})) hours='
+  wrong cue/clock minutes-in-octal 'minutes=$((10#0${BASH_REMATCH[2]}))' \
+    'minutes=$((0${BASH_REMATCH[2]}))'
+  wrong cue/clock ticks-in-octal '10#${BASH_REMATCH[2]}))
+  elif' '${BASH_REMATCH[2]}))
+  elif'
+  wrong cue/clock no-ticks-before-0 'ticks=$((${BASH_REMATCH[1]}10#' 'ticks=$((10#'
+  wrong cue/clock no-long-minutes "local first='([0-9]{1,9})'" "local first='([0-9]{1,2})'"
+  wrong cue/order only-the-first-time '"$code ${times[*]}"' '"$code ${times[0]}"'
+  wrong cue/order the-same-time-for-all 'times+=("$ticks")' \
+    'times=("${times[0]-$ticks}" "${times[@]}")'
+  wrong cue/order times-backwards 'times+=("$ticks")' 'times=("$ticks" "${times[@]}")'
+  wrong cue/order one-time-more most_times=32 most_times=33
+  wrong cue/order one-time-less most_times=32 most_times=31
+  wrong cue/wrong_times nineteen-digits '(-?)([0-9]{1,18})' '(-?)([0-9]{1,19})'
+  wrong cue/wrong_times ten-digits "local first='([0-9]{1,9})'" "local first='([0-9]{1,10})'"
+  wrong cue/wrong_times ten-digits-behind-the-point "last='(\\.([0-9]{1,9}))?'" \
+    "last='(\\.([0-9]{1,10}))?'"
+  wrong cue/wrong_times ninety-nine-seconds "'([0-5]?[0-9])'" "'([0-9]?[0-9])'"
+  wrong cue/wrong_times any-word-is-a-time '  else
+    return 1
+  fi' '  else
+    ticks=0
+  fi'
+  wrong cue/wrong_times only-the-first-is-looked-at '  for word; do
+    ticks_of' '  for word in "$1"; do
+    ticks_of'
+  wrong cue/wrong_times comma-is-a-point 'numbers_of "$1" '"'([0-5]?[0-9])'" \
+    'numbers_of "${1/,/.}" '"'([0-5]?[0-9])'"
+  wrong cue/wrong_times comma-not-named '[[ $1 == *,* ]] && ticks_of "$point"' false
+  wrong cue/wrong_times comma-without-an-s '|| point+=s' '|| true'
+  wrong cue/wrong_times seconds-are-ticks '  elif [[ $1 =~ ^[0-9]+\.[0-9]+$ ]]; then
+' '  elif false; then
+'
+  wrong cue/wrong_times colon-and-s-not-named '[[ $1 == *:*s ]] && ticks_of "${1%s}"' false
+  wrong cue/wrong_times carried-into-no-hour 'all / 60 % 60' 'all / 60'
+  wrong cue/wrong_times carried-without-its-part '  esac
+  printf '"'%s'"' "$part"' '  esac'
+  wrong cue/misuse time-for-a-file '[ ! -e "$file" ] && ticks_of "$file"' false
+  wrong cue/files file-for-a-time '[ ! -e "$file" ] && ticks_of "$file"' 'ticks_of "$file"'
+  wrong cue/misuse no-time-is-0 '[ $# -ge 1 ] || misused "at which time?' '[ $# -ge 1 ] || set -- 0
+  true || misused "at which time?'
+  wrong cue/misuse no-file-is-standard-input '[ $# -ge 1 ] || misused "which stream, and' \
+    '[ $# -ge 1 ] || set -- -
+  true || misused "which stream, and'
+  wrong cue/manual another-time-of-the-help '0:01:23.5 ' '0:02:23.5 '
+  wrong cue/manual no-status-3-for-a-cue '3 for at least one time' '4 for at least one time'
+  wrong cue/first_use cue-by-the-program-of-the-sheet 'ensure_built cuelines' \
+    'program_name=cuelines'
+}
+
+wrong_answers() {
+  wrong cue/order line-e-printed '"${lines[@]}" >&3' '"${lines[@]}" "$last_line" >&3'
+  wrong cue/order none-not-printed '"${lines[@]}" >&3' '"${lines[@]//* none/}" >&3'
+  wrong cue/unfinished answer-without-line-e 'take_losses && [ ${#lines[@]} -eq ${#times[@]} ] ||' \
+    'take_losses
+  true ||'
+  wrong cue/unfinished answer-to-some-times 'take_losses && [ ${#lines[@]} -eq ${#times[@]} ] ||' \
+    'take_losses ||'
+  wrong cue/program failed-program-answers '"$code ${times[*]}"
+check_written' '"$code ${times[*]}"'
+  wrong cue/descriptors answers-not-written 'print_answers
+check_written' print_answers
+  wrong cue/descriptors failed-write-not-seen '} 2>/dev/null
+  passed_on=$?' '} 2>/dev/null
+  passed_on=0'
+  wrong cue/descriptors ended-by-a-broken-pipe '{ (printf '"'%s\\n'"' "${lines[@]}" >&3); }' \
+    '{ printf '"'%s\\n'"' "${lines[@]}" >&3; }'
+  wrong cue/silence before-0-is-no-stream 'elif [ "${times[place]}" -lt 0 ]' 'elif false'
+  wrong cue/silence before-0-is-success '      none=1
+' ''
+  wrong cue/tags_told no-frame-not-told '      missed=1
+' '      true
+'
+  wrong cue/silence losses-without-an-answer '[[ $first_line == E* ]] || judge_losses' judge_losses
+  wrong cue/losses_told losses-not-told '[[ $first_line == E* ]] || judge_losses' true
+  wrong cue/causes_told frames-by-hearsay '  first_line=$last_line
+' "  first_line=''
+"
+  wrong cue/ends over-a-tick-early 'over=$((stamp + 1 + (' 'over=$((stamp + ('
+  wrong cue/ends over-a-tick-late '-ge "$over" ]' '-gt "$over" ]'
+  wrong cue/ends over-by-whole-ticks 'samples * 90000 + rate - 1) / rate' 'samples * 90000) / rate'
+  wrong cue/stamps length-for-samples 'number _ _ samples rate _ _ stamp' \
+    'number samples _ _ rate _ _ stamp'
+  wrong cue/falling never-over '[ "${times[$1]}" -ge "$over" ] || return 0' 'return 0'
+  wrong cue/ends ticks-not-said "printf '%s (%s ticks)' \"\${asked[\$1]}\"" \
+    "printf '%s (%s)' \"\${asked[\$1]}\""
+  wrong cue/losses_told words-of-the-sheet "absent='left out'" "absent='not on the sheet'"
+  wrong cue/tags_told all-right-on-the-sheet "all_right='All frames were found, and their" \
+    "all_right='All frames are on the sheet, and their"
+  wrong cue/causes_told to-cut verb=search verb=cut
+  wrong cue/tags_told frames-that-are-there "sought=' with a time'" "sought=''"
+  wrong cue/tags_told advice-without-times 'times_typed=" $*"' "times_typed=''"
+  wrong cue/films_told advice-with-one-time 'times_typed=" $*"' 'times_typed=" $1"'
+  wrong cue/tags_told advice-without-standard-input '[ -z "$times_typed" ] || from=${from:--}' true
+  wrong tag_names sheet-with-times "times_typed=''" "times_typed=' 0'"
+  wrong cue/both_programs the-answering-program-is-asked 'asked_program=$root/target/bin/cutsheet' \
+    'asked_program=$program'
+  wrong cue/both_programs no-program-to-ask 'ensure_built cutsheet
+ensure_built cuelines' 'ensure_built cuelines'
 }
 
 wrong_verdicts() {
@@ -293,9 +412,9 @@ wrong_causes() {
 }
 
 wrong_advice() {
-  wrong tags_before cut-one-byte-early 'tail -c +$(($1 + 1))$from' 'tail -c +$1$from'
-  wrong tags_behind cut-one-byte-more 'head -c -$2$from' 'head -c -$(($2 + 1))$from'
-  wrong wrong_codes the-code-that-was-asked-for '$command_typed $3$from' '$command_typed $code$from'
+  wrong tags_before cut-one-byte-early 'tail -c +$(($1 + 1))${from' 'tail -c +$1${from'
+  wrong tags_behind cut-one-byte-more 'head -c -$2${from' 'head -c -$(($2 + 1))${from'
+  wrong wrong_codes the-code-that-was-asked-for 'to_run "$3" "$from"' 'to_run "$code" "$from"'
   wrong tag_names names-not-quoted 'printf '"'%s'"' "${1@Q}"' 'printf '"'%s'"' "$1"'
   wrong tag_names names-with-a-dash '    -* | *:*) typed "./$file" ;;
 ' ''
@@ -305,8 +424,8 @@ wrong_advice() {
   wrong ffmpeg_lines film-through-a-pipe '  if [ -z "$again" ]; then
     advise' '  if false; then
     advise'
-  wrong ffmpeg_lines aac-with-code-1 '$command_typed 2 track.aac' '$command_typed 1 track.aac'
-  wrong ffmpeg_lines mp3-with-code-2 '$command_typed 1 track.mp3' '$command_typed 2 track.mp3'
-  wrong ffmpeg_lines encoded-with-code-1 '$command_typed 0 track.ac3' '$command_typed 1 track.ac3'
+  wrong ffmpeg_lines aac-with-code-1 'to_run 2 track.aac' 'to_run 1 track.aac'
+  wrong ffmpeg_lines mp3-with-code-2 'to_run 1 track.mp3' 'to_run 2 track.mp3'
+  wrong ffmpeg_lines encoded-with-code-1 'to_run 0 track.ac3' 'to_run 1 track.ac3'
   wrong ffmpeg_lines first-stream-of-any-kind '/dev/stdin} -map 0:a:0 -c:a ac3' '/dev/stdin} -map 0:0 -c:a ac3'
 }

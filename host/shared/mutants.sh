@@ -5,6 +5,9 @@
 count=0
 caught=0
 
+# What of host/ a copy of the workspace has: cargo wants all members, though it builds a few.
+members=(Cargo.toml Cargo.lock oracle common heads splitter sheet cues cuecalls benchmarks)
+
 # begin NAME: the folder, empty.
 begin() {
   mutants=target/selftests/$1
@@ -101,7 +104,7 @@ copy_host() {
   unset AUDIO_FRAME_RS
   copy=$root/$mutants/copy
   mkdir -p "$copy/host"
-  cp -r host/{Cargo.toml,Cargo.lock,oracle,common,heads,splitter,sheet,benchmarks} "$copy/host"
+  cp -r "${members[@]/#/host/}" "$copy/host"
   cat >>"$copy/host/oracle/src/lib.rs" <<'END'
 
 /// Whether the environment names that change.

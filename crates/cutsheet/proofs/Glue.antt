@@ -20,12 +20,12 @@ use Rattle.sheet.specs.Step.{Wrote, refused, written, put, sheetAnswer, Lent, l
 use Rattle.sheet.specs.declared.sheet.CutLines.{CutLines}
 use Rattle.sheet.specs.declared.sheet.CutSheet.{CutSheet}
 use Rattle.sheet.specs.declared.sheet.SheetAnswer.the-variants.{Written, Refused}
-use Rattle.sheet.proofs.Sheets.{Same, push-same, AllPayloads, payloads-none, payloads-next, step-open}
+use Rattle.sheet.proofs.Sheets.{Same, push-same, AllPayloads, payloads-none, block-next, step-open}
 use Rattle.sheet.proofs.Stepping.{Gives, step-stays}
 use Rattle.text.specs.declared.output.Output.{Output}
 use Rattle.cutsheet.specs.Bounds.{textLength}
 use Rattle.cutsheet.specs.Glue.{Roomed, stepFrom, CutFrom, Sized, closedAt, sessionBy, PayloadCut, PayloadsCut, all, closed, next, State, stateOf, stateBy, stateAfter, statesAfter, StateCut, usableOf}
-use Rattle.cutsheet.specs.declared.input.Filled.{Filled}
+use Rattle.text.specs.declared.input.Filled.{Filled}
 use Rattle.cutsheet.specs.declared.session.Session.{Session}
 
 -- ---- the text from a place on
@@ -113,36 +113,6 @@ module _ (s : Session) (p : List ℕ) (was is : Lent) (o : Output) (r : CutLines
       }
 
 -- ---- the payloads of a block
-
--- a part that is as long as wanted, or as there is
-part-most : (n m : ℕ) (l : List ℕ) → m ≡ min n (length l) → (take m l ≡ take n l) × (drop m l ≡ drop n l)
-part-most n m l e = go (ltb (length l) n) refl
-  where
-    go : (t : Bool) → ltb (length l) n ≡ t → (take m l ≡ take n l) × (drop m l ≡ drop n l)
-    go true q =
-        let h : length l < n = ltb-true (length l) n q in
-        let s : m ≡ length l = omega arith in (
-          take-all m l (omega arith) ∙ sym (take-all n l (omega arith)),
-          drop-of-length-le l {i = m} (omega arith) ∙ sym (drop-of-length-le l {i = n} (omega arith)),
-        )
-    go false q =
-        let h : n ≤ length l = ltb-false (length l) n q in
-        let s : m ≡ n = omega arith in
-        (ap (λ (k : ℕ). take k l) s, ap (λ (k : ℕ). drop k l) s)
-
--- the next one of those from a place on
-block-next : (block : List ℕ) (at end : ℕ) → at < length block → end ≡ at + min payloadSize (length block - at)
-    → payloadsOf (drop at block) ≡ take (end - at) (drop at block) ∷ payloadsOf (drop end block)
-block-next block at end h e =
-    let l : length (drop at block) ≡ length block - at = length-drop at block in
-    let m : end - at ≡ min payloadSize (length (drop at block)) = omega arith in
-    let part = part-most payloadSize (end - at) (drop at block) m in
-    let k : at + (end - at) ≡ end = omega arith in
-    let d : drop payloadSize (drop at block) ≡ drop end block =
-    sym (part .1) ∙ drop-drop (end - at) at block ∙ ap (λ (n : ℕ). drop n block) k in
-    payloads-next (drop at block) (omega arith)
-    ∙ ap (λ (x : List ℕ). x ∷ payloadsOf (drop payloadSize (drop at block))) (sym (part .0))
-    ∙ ap (λ (x : List ℕ). take (end - at) (drop at block) ∷ payloadsOf x) d
 
 -- a place of the block that was reached: what comes of the payloads behind it comes of all
 abbrev pub Reached : Session → Lent → List ℕ → ℕ → Session → Lent → Type 0

@@ -12,9 +12,9 @@ use Rattle.sheet.specs.Step.{Wrote, refused, written, put, sheetAnswer, Lent, l
 use Rattle.sheet.specs.declared.sheet.CutLines.{CutLines}
 use Rattle.sheet.specs.declared.sheet.CutSheet.{CutSheet}
 use Rattle.text.specs.Output.{noOutput, Written}
+use Rattle.text.specs.declared.input.Filled.{Filled}
 use Rattle.text.specs.declared.output.Output.{Output}
 use Rattle.cutsheet.specs.Bounds.{textLength, blockLength}
-use Rattle.cutsheet.specs.declared.input.Filled.{Filled}
 use Rattle.cutsheet.specs.declared.session.Session.{Session}
 
 -- ---- the output

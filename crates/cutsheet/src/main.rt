@@ -2,7 +2,6 @@
 // standard output gets a line for each frame and a last line. A sheet that lacks the last line is not whole, and then
 // standard error says why.
 mod buffers;
-mod input;
 mod output;
 mod session;
 

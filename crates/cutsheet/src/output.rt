@@ -1,7 +1,7 @@
 // Lines, collected in a lent text and written in large pieces.
-use crate::buffers::LINES_MAX;
 use crate::buffers::TEXT_LEN;
 use libc::STDOUT_FILENO;
+use sheet::LINES_MAX;
 use text::Output;
 use text::report;
 ghost use Prim.Native.Nat.{_+_, _≤_};

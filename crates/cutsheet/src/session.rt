@@ -1,12 +1,6 @@
 // A run over standard input: its first line, then the stream, payload by payload.
 use crate::buffers::BLOCK_LEN;
-use crate::buffers::OUT_LEN;
-use crate::buffers::PAYLOAD_LEN;
-use crate::buffers::PENDING_LEN;
-use crate::buffers::ROWS_LEN;
 use crate::buffers::TEXT_LEN;
-use crate::input::Filled;
-use crate::input::fill;
 use crate::output::print;
 use crate::output::report_read;
 use crate::output::report_write;
@@ -15,14 +9,21 @@ use sheet::CutLines;
 use sheet::CutSheet;
 use sheet::FirstLine;
 use sheet::NewSheet;
+use sheet::OUT_LEN;
+use sheet::PAYLOAD_LEN;
+use sheet::PENDING_LEN;
+use sheet::ROWS_LEN;
 use sheet::SheetAnswer;
 use sheet::first_line;
+use sheet::payload_end;
+use text::Filled;
 use text::Output;
+use text::fill;
 ghost use mathlib.Core.Path.{_≡_};
-ghost use Prim.Native.Nat.{_+_, _-_, _≤_, _<_, min};
+ghost use Prim.Native.Nat.{_+_, _-_, _≤_};
 ghost use lib.ListN.{length};
 ghost use Rattle.sheet.specs.Run.{Roomy};
-ghost use Rattle.sheet.specs.Sheet.{payloadSize, pendSize, payloadsOf, endOf};
+ghost use Rattle.sheet.specs.Sheet.{pendSize, payloadsOf, endOf};
 ghost use Rattle.sheet.specs.Step.{put, lent, endMost};
 ghost use Rattle.cutsheet.specs.Bounds.{Bounded, Payload, Within};
 ghost use Rattle.cutsheet.specs.Glue.{CutFrom, PayloadCut, PayloadsCut, StateCut, NextCut, EndPut, newSession, closedAt, usableOf, afterRead};
@@ -229,16 +230,6 @@ fn usable(filled: Filled) -> usize
     let len = filled.len;
     if filled.failed {
         return len - len % PAYLOAD_LEN;
-    }
-    len
-}
-
-fn payload_end(at: usize, len: usize) -> usize
-    requires { ⌜ at < len ⌝ }
-    ensures { λ r. ⌜ r ≡ at + min payloadSize (len - at) ⌝ }
-{
-    if PAYLOAD_LEN < len - at {
-        return at + PAYLOAD_LEN;
     }
     len
 }

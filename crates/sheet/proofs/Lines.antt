@@ -44,7 +44,7 @@ use Rattle.sheet.specs.Parts.{RowsFit}
 
 module _ {ℓ} {A : Type ℓ} where
   -- what stands behind a front, of a longer front
-  drop-front : (n m : ℕ) (l : List A) → drop n (take (n + m) l) ≡ take m (drop n l)
+  pub drop-front : (n m : ℕ) (l : List A) → drop n (take (n + m) l) ≡ take m (drop n l)
   drop-front zero m l = rw zero-add
   drop-front (suc n) m [] = ap (drop (suc n)) (take-nil (suc n + m)) ∙ sym (take-nil m)
   drop-front (suc n) m (x ∷ l) = rw suc-add (drop-front n m l)

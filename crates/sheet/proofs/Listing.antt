@@ -1,5 +1,6 @@
 -- Lines that are written one after the other, and the last line. Assumes nothing.
 use mathlib.Core.Path.{_≡_, refl, sym, _∙_, ap}
+use mathlib.Core.Logic.{_⊎_, inl, inr}
 use mathlib.Core.List.{List, [], _∷_, _++_, append-assoc}
 use Prim.Native.Nat.{ℕ, suc, _+_, _-_, _*_, _≤_, _<_}
 use native.Mathlib.Numerals.{add-one}
@@ -7,6 +8,7 @@ use native.Mathlib.Omega.{arith}
 use lib.IntN.{ℤ}
 use lib.ListN.{length, take, drop, set, length-append}
 use Rattle.splitter.specs.Bounds.{rowWidth}
+use Rattle.splitter.proofs.Lists.{le-or-lt}
 use Rattle.numbers.specs.Decimal.{decimal}
 use Rattle.sheet.specs.Layout.{space, lineFeed, right, line, endLine}
 use Rattle.sheet.specs.Sheet.{linesOf}
@@ -34,9 +36,17 @@ pub record Listed (n : ℕ) (rows : List ℤ) (old text : List ℕ) (at k : ℕ)
   pub paced : at ≡ k * lineLength
   pub text-is : text ≡ put 0 (linesOf n k rows) old
   pub same : length text ≡ length old
+  pub even : (j : ℕ) → j ≤ k → length (linesOf n j rows) ≡ j * lineLength
 
 pub listed-none : (n : ℕ) (rows : List ℤ) (old : List ℕ) → Listed n rows old old 0 0
-listed-none n rows old = record { place = refl; paced = refl; text-is = sym (put-none 0 old); same = refl }
+listed-none n rows old =
+    record {
+      place = refl;
+      paced = refl;
+      text-is = sym (put-none 0 old);
+      same = refl;
+      even = λ j h. let z : j ≡ 0 = omega arith in rw z refl;
+    }
 
 module _ (n : ℕ) (rows : List ℤ) (old text : List ℕ) (at k count : ℕ) (l : Listed n rows old text at k) (h : k < count)
     (room : 0 + count * lineLength ≤ length old) where
@@ -64,7 +74,18 @@ module _ (n : ℕ) (rows : List ℤ) (old text : List ℕ) (at k count : ℕ) (l
             (omega (arith, l .place, l .paced))
             ∙ ap (λ (t : List ℕ). put 0 t old) (sym then);
         same = s ∙ l .same;
+        even = λ j h. all j (le-or-lt j k) h (ap length then ∙ length-append (linesOf n k rows) here);
       }
+    where
+      -- those before, or all
+      all : (j : ℕ) → (j ≤ k) ⊎ (k < j) → j ≤ k + 1
+          → length (linesOf n (k + 1) rows) ≡ length (linesOf n k rows) + length
+          (line m (take (k * rowWidth + rowWidth - k * rowWidth) (drop (k * rowWidth) rows)))
+          → length (linesOf n j rows) ≡ j * lineLength
+      all j (inl b) h t = l .even j b
+      all j (inr b) h t =
+          let i : j ≡ k + 1 = omega arith in
+          ap (λ (j : ℕ). length (linesOf n j rows)) i ∙ t ∙ omega (arith, l .even k (omega arith), z)
 
 -- ---- the last line
 

@@ -3,14 +3,14 @@
 use mathlib.Core.Path.{_≡_, refl, sym, _∙_, ap, subst}
 use mathlib.Core.Bool.{Bool, true, false, _||_}
 use mathlib.Core.List.{List, [], _∷_, _++_, map}
-use Prim.Native.Nat.{ℕ, zero, suc, _+_, _*_, _/_, _%_, _≤_, _<_}
+use Prim.Native.Nat.{ℕ, zero, suc, _+_, _-_, _*_, _/_, _%_, _≤_, _<_, min}
 use native.Mathlib.Omega.{arith}
 use native.Mathlib.Nat.{not-suc-le-zero}
 use lib.Dec.{ltb}
 use lib.IntN.{ℤ, pos}
-use lib.ListN.{length, take, drop, replicate, length-append, length-drop, length-replicate, take-append-drop, length-take}
-use lib.Seq.{take-append-seam, take-at, take-append-le, drop-append-le}
-use borrow.Author.Tests.{le-ltb}
+use lib.ListN.{length, take, drop, replicate, length-append, length-drop, length-replicate, drop-of-length-le, take-append-drop, length-take}
+use lib.Seq.{take-append-seam, take-at, take-append-le, drop-append-le, take-all, drop-drop}
+use borrow.Author.Tests.{le-ltb, ltb-true, ltb-false}
 use Rattle.heads.specs.Syntax.{headOf, needOf, syntaxOf}
 use Rattle.heads.specs.declared.syntax.AudioSyntax.{AudioSyntax}
 use Rattle.heads.specs.declared.syntax.CodedSyntax.{CodedSyntax}
@@ -264,6 +264,36 @@ payloads-join a b =
     ∙ ap (λ (ps : List (List ℕ)). take payloadSize a ∷ ps) (ih (omega (arith, length-drop payloadSize a)))
     ∙ ap (λ (ps : List (List ℕ)). ps ++ payloadsOf b) (sym (payloads-next a h)))
     a
+
+-- a part that is as long as wanted, or as there is
+part-most : (n m : ℕ) (l : List ℕ) → m ≡ min n (length l) → (take m l ≡ take n l) × (drop m l ≡ drop n l)
+part-most n m l e = go (ltb (length l) n) refl
+  where
+    go : (t : Bool) → ltb (length l) n ≡ t → (take m l ≡ take n l) × (drop m l ≡ drop n l)
+    go true q =
+        let h : length l < n = ltb-true (length l) n q in
+        let s : m ≡ length l = omega arith in (
+          take-all m l (omega arith) ∙ sym (take-all n l (omega arith)),
+          drop-of-length-le l {i = m} (omega arith) ∙ sym (drop-of-length-le l {i = n} (omega arith)),
+        )
+    go false q =
+        let h : n ≤ length l = ltb-false (length l) n q in
+        let s : m ≡ n = omega arith in
+        (ap (λ (k : ℕ). take k l) s, ap (λ (k : ℕ). drop k l) s)
+
+-- of a block, the next payload from a place on, and those behind it
+pub block-next : (block : List ℕ) (at end : ℕ) → at < length block → end ≡ at + min payloadSize (length block - at)
+    → payloadsOf (drop at block) ≡ take (end - at) (drop at block) ∷ payloadsOf (drop end block)
+block-next block at end h e =
+    let l : length (drop at block) ≡ length block - at = length-drop at block in
+    let m : end - at ≡ min payloadSize (length (drop at block)) = omega arith in
+    let part = part-most payloadSize (end - at) (drop at block) m in
+    let k : at + (end - at) ≡ end = omega arith in
+    let d : drop payloadSize (drop at block) ≡ drop end block =
+    sym (part .1) ∙ drop-drop (end - at) at block ∙ ap (λ (n : ℕ). drop n block) k in
+    payloads-next (drop at block) (omega arith)
+    ∙ ap (λ (x : List ℕ). x ∷ payloadsOf (drop payloadSize (drop at block))) (sym (part .0))
+    ∙ ap (λ (x : List ℕ). take (end - at) (drop at block) ∷ payloadsOf x) d
 
 -- ---- from push to push
 

@@ -1,5 +1,5 @@
 -- The steps by their cases. Assumes nothing.
-use mathlib.Core.Path.{_≡_, refl, sym, _∙_, ap}
+use mathlib.Core.Path.{_≡_, refl, sym, _∙_, ap, subst}
 use mathlib.Core.Bool.{Bool, true, false}
 use mathlib.Core.List.{List}
 use Prim.Native.Nat.{ℕ, _+_, _*_, _/_, _≤_, _<_}
@@ -19,7 +19,7 @@ use Rattle.splitter.proofs.Refusing.{push-refused}
 use Rattle.splitter.specs.declared.state.AudioFrameSplitter.{AudioFrameSplitter}
 use Rattle.sheet.specs.Layout.{endLine}
 use Rattle.sheet.specs.Sheet.{timeOf, linesOf, endOf}
-use Rattle.sheet.specs.Step.{Wrote, refused, written, put, Lent, Step, stepped, stay, lineLength, sheetAfter, stepBy, pushOf, tightText, step, endMost, End, ended, endIf, finish}
+use Rattle.sheet.specs.Step.{Wrote, refused, written, put, Lent, Step, stepped, stay, lineLength, Paced, PacedBy, sheetAfter, stepBy, pushOf, tightText, step, endMost, End, ended, endIf, finish}
 use Rattle.sheet.specs.declared.sheet.CutSheet.{CutSheet}
 use Rattle.sheet.proofs.Writing.{put-front}
 
@@ -58,6 +58,17 @@ finish-stays c text k = go (ltb (length text) endMost)
     go false e = absurd (let z : _≡_ {A = ℕ} 0 1 = cc in omega arith)
 
 -- ---- one payload
+
+-- a refused one has no lines
+pub unpaced : (w : Wrote) (a : Answer) (k n : ℕ) (rows : List ℤ) → w ≡ refused k → PacedBy w a n rows
+unpaced w a k n rows e = subst (λ (w : Wrote). PacedBy w a n rows) (sym e) tt
+
+-- one that wrote has them in pace
+pub paced-by : (w : Wrote) (a : Answer) (len n : ℕ) (t : Bool) (r b : ℕ) (rows : List ℤ) → w ≡ written len
+    → done t r b ≡ a → Paced r n rows
+    → PacedBy w a n rows
+paced-by w a len n t r b rows ew ea h =
+    subst (λ (w : Wrote). PacedBy w a n rows) (sym ew) (subst (λ (a : Answer). PacedBy (written len) a n rows) ea h)
 
 -- what a step gives, part by part
 abbrev pub Gives : Wrote → CutSheet → List ℕ → List ℕ → List ℤ → List ℕ → Step → Type 0

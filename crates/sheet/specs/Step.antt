@@ -1,5 +1,6 @@
 -- THE STEPS by which a program makes a sheet: one payload's lines, and the last line. Each writes to the front of a
 -- lent text.
+use mathlib.Core.Path.{_≡_}
 use mathlib.Core.Bool.{Bool, true, false}
 use mathlib.Core.List.{List, _++_}
 use Prim.Native.Nat.{ℕ, _+_, _*_, _/_, _≤_}
@@ -59,6 +60,16 @@ newSheetOf code = newSheetIn (syntaxOf code) code
 -- how long a frame's line is: eight columns, the spaces between them, the line feed
 abbrev pub lineLength : ℕ
 lineLength = 8 + 5 + 2 + 5 + 6 + 2 + 7 + 20 + 7 + 1
+
+-- so of the lines of r rows, behind n others, line j from 0 begins at byte 63 × j
+abbrev pub Paced : ℕ → ℕ → List ℤ → Type 0
+Paced r n rows = (j : ℕ) → j ≤ r → length (linesOf n j rows) ≡ j * lineLength
+
+-- where a step wrote the lines of its push
+abbrev pub PacedBy : Wrote → Answer → ℕ → List ℤ → Type 0
+PacedBy (refused k) a n rows = Unit {0}
+PacedBy (written len) (Answer.refused k) n rows = Unit {0}
+PacedBy (written len) (done t r b) n rows = Paced r n rows
 
 -- what a step is lent: the splitter's three buffers, and the text
 pub record Lent : Type 0 where

@@ -10,7 +10,7 @@ ghost use lib.ListN.{length, getD};
 ghost use Rattle.splitter.specs.Bounds.{rowWidth};
 ghost use Rattle.sheet.specs.Layout.{cells, line, lineOf, endLine, lowDigits, rateCell, stampCell};
 ghost use Rattle.sheet.specs.Sheet.{linesOf};
-ghost use Rattle.sheet.specs.Step.{put, Room, lineLength};
+ghost use Rattle.sheet.specs.Step.{put, Room, lineLength, Paced};
 ghost use Rattle.sheet.specs.Parts.{Held, RowFits, RowsFit};
 
 const COLUMN_COUNT: usize = 8;
@@ -99,6 +99,7 @@ pub fn put_lines(text: &mut [u8], number: u32, rows: &[i64], count: usize) -> us
         × Room 0 (count * lineLength) (now text)
         ⌝ }
     ensures { λ r. ⌜ r ≡ length (linesOf number count (now (rows .entry))) ⌝ }
+    ensures { λ _. ⌜ Paced count number (now (rows .entry)) ⌝ }
     ensures { λ _. ⌜ now (text .exit) ≡ put 0 (linesOf number count (now (rows .entry))) (now (text .entry)) ⌝ }
 {
     let mut at = 0;

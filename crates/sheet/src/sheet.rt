@@ -17,7 +17,7 @@ ghost use Rattle.splitter.specs.Bounds.{rowWidth};
 ghost use Rattle.splitter.specs.Push.{over};
 ghost use Rattle.sheet.specs.Sheet.{timeOf, linesOf};
 ghost use Rattle.sheet.specs.Parts.{RowsFit};
-ghost use Rattle.sheet.specs.Step.{Room, lineLength, newSheetOf, sheetAnswer, refused, written, sheetAfter, stepped, step, lent, ended, finish};
+ghost use Rattle.sheet.specs.Step.{Room, lineLength, Paced, PacedBy, pushOf, newSheetOf, sheetAnswer, refused, written, sheetAfter, stepped, step, lent, ended, finish};
 
 // How many bytes the line of a frame has.
 pub const LINE_LEN: usize = 63;
@@ -89,6 +89,9 @@ impl CutSheet {
             stepped (sheetAnswer (r .answer)) (r .sheet) (now (pending .exit)) (now (out .exit)) (now (rows .exit)) (now (text .exit))
             ≡ step self (now (payload .entry)) (lent (now (pending .entry)) (now (out .entry)) (now (rows .entry)) (now (text .entry)))
             ⌝ }
+        ensures { λ r. ⌜
+            PacedBy (sheetAnswer (r .answer)) (pushOf self (now (payload .entry)) (lent (now (pending .entry)) (now (out .entry)) (now (rows .entry)) (now (text .entry))) .answer) (self .number) (now (rows .exit))
+            ⌝ }
     {
         let splitter = self.splitter;
         let pts = self.pts();
@@ -138,6 +141,7 @@ impl CutSheet {
             sheetAnswer (r .answer)
             ≡ written (length (linesOf (self .number) count (now (rows .entry))))
             ⌝ }
+        ensures { λ _. ⌜ Paced count (self .number) (now (rows .entry)) ⌝ }
         ensures { λ r. ⌜ r .sheet ≡ sheetAfter self splitter count ⌝ }
         ensures { λ _. ⌜
             now (text .exit)

@@ -3,5 +3,6 @@ pub mod Ascii
 pub mod Part
 pub mod Octet
 pub mod Number
+pub mod Signed
 pub mod Output
 pub mod Line

@@ -1,11 +1,15 @@
-// Text as the programs read and write it: numbers, bytes as hexadecimal digits, lines, and output that is collected in
-// a block.
+// Text as the programs read and write it: numbers, bytes as hexadecimal digits, lines, input that comes in pieces, and
+// output that is collected in a block.
+mod input;
 mod line;
 mod number;
 mod octet;
 mod output;
 mod part;
+mod signed;
 
+pub use input::Filled;
+pub use input::fill;
 pub use line::Line;
 pub use number::Number;
 pub use number::Place;
@@ -24,3 +28,6 @@ pub use output::Output;
 pub use output::report;
 pub use part::front;
 pub use part::same;
+pub use signed::Signed;
+pub use signed::parse_signed;
+pub use signed::signed_after;

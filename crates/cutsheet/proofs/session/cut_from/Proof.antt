@@ -42,7 +42,7 @@ returns c =
     let args = start .args in
     let text = args .text .now in
     let rest = take (length text - args .at) (drop (args .at) text) in
-    let gives = step-fields (cut .cut .ensures) in
+    let gives = step-fields (cut .cut .ensures .0) in
     let last = cut .cut .last .1 .1 in (
       subst (λ (most : ℕ). Within most (cut .cut .result .answer)) (rest-length text (args .at))
           (step-room (cut .cut .result .answer) (args .sheet) (args .payload .now)

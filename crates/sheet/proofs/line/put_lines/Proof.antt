@@ -93,7 +93,10 @@ returns c =
     let rows = now (s .args .rows) in
     let e : h .loop .k ≡ s .args .count = omega arith in (
       h .loop .inv .1 .place ∙ ap (λ (j : ℕ). length (linesOf (s .args .number) j rows)) e,
-      h .loop .inv .1 .text-is ∙ ap (λ (j : ℕ). put 0 (linesOf (s .args .number) j rows) (now (s .args .text))) e,
+      (
+        λ j m. h .loop .inv .1 .even j (omega arith),
+        h .loop .inv .1 .text-is ∙ ap (λ (j : ℕ). put 0 (linesOf (s .args .number) j rows) (now (s .args .text))) e,
+      ),
     )
 
 pub put-lines-spec : {M : Type 1} → statement M

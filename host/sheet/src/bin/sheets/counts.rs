@@ -1,7 +1,7 @@
 //! What the inputs of a run were, and what their sheets had.
 
-use crate::feed::Feed;
 use common::counts::{self, group};
+use common::feed::Feed;
 use oracle::domain::Asked;
 use sheet::inputs::demo::{self, Demo};
 use sheet::inputs::input::{Input, STREAMS};

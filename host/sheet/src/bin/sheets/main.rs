@@ -4,10 +4,9 @@
 //! stops with status 1 at the first difference, or where something that should be seen never was.
 
 mod counts;
-mod feed;
 
+use common::feed::{self, different_line, Feed, Printed};
 use counts::Counts;
-use feed::{Feed, Printed};
 use oracle::domain;
 use sheet::inputs::demo;
 use sheet::inputs::input::{self, Input};
@@ -134,25 +133,4 @@ fn difference(printed: &Printed, expected: &[u8], inside: &Inside) -> Option<Str
     different_line(text, "the module as requested", expected)
         .or_else(|| different_line(inside.part_of(text), "the unchanged module", &inside.sheet))
         .or_else(|| (!status.success()).then(ended))
-}
-
-/// The first line that is not the one of that module.
-fn different_line(printed: &[u8], module: &str, right: &[u8]) -> Option<String> {
-    if printed == right {
-        return None;
-    }
-    let mut ours = printed.split_inclusive(|byte| *byte == b'\n');
-    let mut right = right.split_inclusive(|byte| *byte == b'\n');
-    let lines = std::iter::repeat_with(|| (ours.next(), right.next()));
-    let (n, (ours, right)) = (1..).zip(lines).find(|(_, (ours, right))| ours != right)?;
-    let (ours, right) = (shown(ours), shown(right));
-    Some(format!("line {n}: the program prints {ours}, {module} {right}"))
-}
-
-/// A line with its line feed, shortened where it is too long for any sheet.
-fn shown(line: Option<&[u8]>) -> String {
-    match line {
-        None => "nothing more".into(),
-        Some(line) => format!("'{}'", line[..line.len().min(200)].escape_ascii()),
-    }
 }

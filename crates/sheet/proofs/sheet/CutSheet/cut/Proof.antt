@@ -22,7 +22,7 @@ use Rattle.splitter.proofs.Laws.{rows-fit, push-rows-length}
 use Rattle.sheet.specs.Parts.{RowsFit}
 use Rattle.sheet.specs.Step.{Lent, lent, lineLength, pushOf, sheetAnswer}
 use Rattle.sheet.proofs.Lines.{push-rows-fit, push-lines-room}
-use Rattle.sheet.proofs.Stepping.{step-numbered, step-tight, step-turned, step-wrote}
+use Rattle.sheet.proofs.Stepping.{unpaced, paced-by, step-numbered, step-tight, step-turned, step-wrote}
 use borrow.Author.Needs.{needs}
 use Rattle.sheet.proofs.sheet.CutSheet.cut.Statement.{statement}
 use Rattle.sheet.proofs.sheet.CutSheet.cut.Tie as tie
@@ -136,11 +136,13 @@ returns : tie.Need-returns
 returns c =
     let g = c .before .before in
     let q = g .before .before in
-    let s = start (q .before) in
-    step-numbered (s .args .self) (now (s .args .payload)) (lentOf s) (q .before .pts .result)
-    (q .before .pts .ensures) (g .limits .given .0 .0)
-    (sym (ap limitsNumber (g .limits .given .1)) ∙ q .refusal .ensures) (sheetAnswer (c .refused .result .answer))
-    (c .refused .result .sheet) (c .refused .ensures .0) (c .refused .ensures .1)
+    let s = start (q .before) in (
+      step-numbered (s .args .self) (now (s .args .payload)) (lentOf s) (q .before .pts .result)
+          (q .before .pts .ensures) (g .limits .given .0 .0)
+          (sym (ap limitsNumber (g .limits .given .1)) ∙ q .refusal .ensures) (sheetAnswer (c .refused .result .answer))
+          (c .refused .result .sheet) (c .refused .ensures .0) (c .refused .ensures .1),
+      unpaced (sheetAnswer (c .refused .result .answer)) _ _ _ _ (c .refused .ensures .0),
+    )
 
 enum-told : tie.Need-enum-told
 enum-told c = search needs
@@ -161,11 +163,13 @@ returns-2 : tie.Need-returns-2
 returns-2 c =
     let m = c .before .before in
     let q = asked (m .before) .before in
-    let s = start q in
-    step-tight (s .args .self) (now (s .args .payload)) (lentOf s) (q .pts .result) (q .pts .ensures) (none (m .before))
-    (omega (arith, c .before .if1 .taken, m .pending-bytes .ensures))
-    (sheetAnswer (c .refused2 .result .answer)) (c .refused2 .result .sheet) (c .refused2 .ensures .0)
-    (c .refused2 .ensures .1)
+    let s = start q in (
+      step-tight (s .args .self) (now (s .args .payload)) (lentOf s) (q .pts .result) (q .pts .ensures) (none (m .before))
+          (omega (arith, c .before .if1 .taken, m .pending-bytes .ensures))
+          (sheetAnswer (c .refused2 .result .answer)) (c .refused2 .result .sheet) (c .refused2 .ensures .0)
+          (c .refused2 .ensures .1),
+      unpaced (sheetAnswer (c .refused2 .result .answer)) _ _ _ _ (c .refused2 .ensures .0),
+    )
 
 push-requires : tie.Need-push-requires
 push-requires c κs = search needs
@@ -223,11 +227,13 @@ returns-3 c =
     let d = c .before .before in
     let p = turned d in
     let s = begin p in
-    let g = d .answer .given in
-    step-turned (s .args .self) (now (s .args .payload)) (lentOf s) (callNumber (g .0 .0)) (p .push .result .splitter)
-    (pend p) (out p) (rows p) (gave p _ (g .1))
-    (sheetAnswer (c .refused3 .result .answer)) (c .refused3 .result .sheet) (c .refused3 .ensures .0)
-    (c .refused3 .ensures .1)
+    let g = d .answer .given in (
+      step-turned (s .args .self) (now (s .args .payload)) (lentOf s) (callNumber (g .0 .0)) (p .push .result .splitter)
+          (pend p) (out p) (rows p) (gave p _ (g .1))
+          (sheetAnswer (c .refused3 .result .answer)) (c .refused3 .result .sheet) (c .refused3 .ensures .0)
+          (c .refused3 .ensures .1),
+      unpaced (sheetAnswer (c .refused3 .result .answer)) _ _ _ _ (c .refused3 .ensures .0),
+    )
 
 same-length-4 : tie.Need-same-length-4
 same-length-4 c = search needs
@@ -247,11 +253,14 @@ returns-4 c =
     let d = idly l in
     let p = idle d in
     let s = begin p in
-    let lines = l .with-lines in
-    step-wrote (s .args .self) (now (s .args .payload)) (lentOf s) (room p) false 0 0 (p .push .result .splitter)
-    (pend p) (out p) (rows p) (gave p _ (d .enum-told2 .given .1))
-    (sheetAnswer (lines .result .answer)) (lines .result .sheet) (lines .last .1 .1 .1 .1 .0) (lines .ensures .0)
-    (lines .ensures .1 .0) (lines .ensures .1 .1)
+    let lines = l .with-lines in (
+      step-wrote (s .args .self) (now (s .args .payload)) (lentOf s) (room p) false 0 0 (p .push .result .splitter)
+          (pend p) (out p) (rows p) (gave p _ (d .enum-told2 .given .1))
+          (sheetAnswer (lines .result .answer)) (lines .result .sheet) (lines .last .1 .1 .1 .1 .0) (lines .ensures .0)
+          (lines .ensures .1 .1 .0) (lines .ensures .1 .1 .1),
+      paced-by (sheetAnswer (lines .result .answer)) _ _ (s .args .self .number) false 0 0 (rows p) (lines .ensures .0)
+          (outcome-fields (gave p _ (d .enum-told2 .given .1)) .0) (lines .ensures .1 .0),
+    )
 
 same-length-8 : tie.Need-same-length-8
 same-length-8 c = search needs
@@ -272,11 +281,14 @@ returns-5 c =
     let p = taken d in
     let s = begin p in
     let w = d .answer2 .given in
-    let lines = l .with-lines2 in
-    step-wrote (s .args .self) (now (s .args .payload)) (lentOf s) (room p) true (w .0 .0 .rows) (w .0 .0 .bytes)
-    (p .push .result .splitter) (pend p) (out p) (rows p) (gave p _ (w .1))
-    (sheetAnswer (lines .result .answer)) (lines .result .sheet) (lines .last .1 .1 .1 .1 .0) (lines .ensures .0)
-    (lines .ensures .1 .0) (lines .ensures .1 .1)
+    let lines = l .with-lines2 in (
+      step-wrote (s .args .self) (now (s .args .payload)) (lentOf s) (room p) true (w .0 .0 .rows) (w .0 .0 .bytes)
+          (p .push .result .splitter) (pend p) (out p) (rows p) (gave p _ (w .1))
+          (sheetAnswer (lines .result .answer)) (lines .result .sheet) (lines .last .1 .1 .1 .1 .0) (lines .ensures .0)
+          (lines .ensures .1 .1 .0) (lines .ensures .1 .1 .1),
+      paced-by (sheetAnswer (lines .result .answer)) _ _ (s .args .self .number) true (w .0 .0 .rows) (w .0 .0 .bytes) (rows p)
+          (lines .ensures .0) (outcome-fields (gave p _ (w .1)) .0) (lines .ensures .1 .0),
+    )
 
 pub cut-spec : {M : Type 1} → statement M
 cut-spec =

@@ -25,9 +25,12 @@ returns c =
     let put = c .before .before .before .put-lines in (
       ap written (put .ensures .0),
       (
-        ap (λ (k : ℕ). record { splitter = s .args .splitter; number = k; begun = true }) (c .number-after .ensures),
-        put .ensures .1 ∙ put-front (linesOf (s .args .self .number) (s .args .count) (now (s .args .rows)))
-            (now (s .args .text)),
+        put .ensures .1 .0,
+        (
+          ap (λ (k : ℕ). record { splitter = s .args .splitter; number = k; begun = true }) (c .number-after .ensures),
+          put .ensures .1 .1 ∙ put-front (linesOf (s .args .self .number) (s .args .count) (now (s .args .rows)))
+              (now (s .args .text)),
+        ),
       ),
     )
 

@@ -1,0 +1,95 @@
+-- THE STEPS by which the program finds its lines: a step of the sheet for each payload, and for each time the line of
+-- the last row that counts among the payload's.
+use mathlib.Core.Path.{_≡_}
+use mathlib.Core.Bool.{Bool, true, false}
+use mathlib.Core.Option.{Option, none, some}
+use mathlib.Core.List.{List, [], _∷_, _++_}
+use Prim.Native.Nat.{ℕ, suc, _+_, _*_, _/_, _≤_}
+use lib.IntN.{ℤ}
+use lib.ListN.{length, take}
+use Rattle.splitter.specs.Bounds.{rowWidth}
+use Rattle.sheet.specs.Layout.{line}
+use Rattle.sheet.specs.Sheet.{linesOf}
+use Rattle.sheet.specs.Step.{Wrote, refused, written, Lent, lent, Step, step, lineLength, Paced}
+use Rattle.sheet.specs.declared.sheet.CutSheet.{CutSheet}
+use Rattle.cues.specs.Cue.{placeIn}
+use Rattle.cues.specs.Places.{rowAt}
+use Rattle.cuelines.specs.declared.session.Session.{Session}
+
+-- ---- the lines
+
+-- of the row at that place, where n lines stand before those of its payload; or what was found before
+abbrev pub heardLine : ℕ → List ℤ → Option ℕ → List ℕ → List ℕ
+heardLine n rows none old = old
+heardLine n rows (some k) old = line (suc (n + k)) (rowAt k rows)
+
+-- for each time
+abbrev pub heardLines : ℕ → List ℤ → List ℤ → List (List ℕ) → List (List ℕ)
+heardLines n [] rows found = found
+heardLines n (t ∷ ts) rows [] = []
+heardLines n (t ∷ ts) rows (old ∷ found) = heardLine n rows (placeIn rows t) old ∷ heardLines n ts rows found
+
+-- ---- one payload
+
+-- the sheet's state, whether to go on, the lent buffers, and a line for each time
+pub record Hearing : Type 0 where
+  pub sheet : CutSheet
+  pub «open» : Bool
+  pub buffers : Lent
+  pub found : List (List ℕ)
+
+abbrev pub hearing : Session → Lent → List (List ℕ) → Hearing
+hearing s b found = record { sheet = s .sheet; «open» = s .«open»; buffers = b; found = found }
+
+-- a refused step is the last
+abbrev pub goesOn : Wrote → Bool
+goesOn (refused k) = false
+goesOn (written n) = true
+
+-- the rows of a step that wrote n bytes: a line for each
+abbrev pub foundBy : Wrote → List ℤ → CutSheet → Step → List (List ℕ) → List (List ℕ)
+foundBy (refused k) times c x found = found
+foundBy (written n) times c x found =
+    heardLines (c .number) times (take (n / lineLength * rowWidth) (x .rows)) found
+
+abbrev pub hearBy : List ℤ → Hearing → Step → Hearing
+hearBy times h x =
+    record {
+      sheet = x .state;
+      «open» = goesOn (x .answer);
+      buffers = lent (x .pend) (x .out) (x .rows) (x .text);
+      found = foundBy (x .answer) times (h .sheet) x (h .found);
+    }
+
+abbrev pub hear : List ℤ → Hearing → List ℕ → Hearing
+hear times h payload = hearBy times h (step (h .sheet) payload (h .buffers))
+
+-- ---- payloads, one after the other, as long as it goes on
+
+abbrev pub hearOn : Bool → Hearing → Hearing → Hearing
+hearOn true next h = next
+hearOn false next h = h
+
+abbrev pub hearAll : List ℤ → Hearing → List (List ℕ) → Hearing
+hearAll times h [] = h
+hearAll times h (p ∷ ps) = hearOn (h .«open») (hearAll times (hear times h p) ps) h
+
+-- ---- what a step gives
+
+-- its rows, and len bytes of lines at the front of the text, where n lines stand before them
+pub record Gave (n len : ℕ) (rows : List ℤ) (text : List ℕ) : Type 0 where
+  pub count : ℕ
+  pub paced : Paced count n rows
+  pub rows-in : count * rowWidth ≤ length rows
+  pub said : len ≡ length (linesOf n count rows)
+  pub rest : List ℕ
+  pub lines : text ≡ linesOf n count rows ++ rest
+
+pub record SomeGave (len : ℕ) (rows : List ℤ) (text : List ℕ) : Type 0 where
+  pub number : ℕ
+  pub gave : Gave number len rows text
+
+-- what the times find in them
+abbrev pub HeardOf : List ℤ → ℕ → List ℤ → List ℕ → List (List ℕ) → List (List ℕ) → Type 0
+HeardOf times len rows text was is =
+    (n : ℕ) → Gave n len rows text → is ≡ heardLines n times (take (len / lineLength * rowWidth) rows) was
