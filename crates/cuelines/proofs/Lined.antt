@@ -14,6 +14,7 @@ use Rattle.splitter.specs.Push.{Event, event}
 use Rattle.splitter.specs.declared.answer.SplitterRefusal.{SplitterRefusal}
 use Rattle.splitter.proofs.Laws.{rows-fit, push-rows-length}
 use Rattle.sheet.specs.Layout.{line}
+use Rattle.sheet.specs.Pushes.{rowsSaid}
 use Rattle.sheet.specs.Sheet.{timeOf, linesOf}
 use Rattle.sheet.specs.Step.{Wrote, refused, written, sheetAnswer, Lent, lent, stepped, stepBy, pushOf, tightText, step, lineLength, Paced, PacedBy}
 use Rattle.sheet.specs.declared.sheet.CutSheet.{CutSheet}
@@ -67,9 +68,14 @@ module _ (n r k : ℕ) (rows : List ℤ) (rest : List ℕ) (pace : Paced r n row
 
 -- ---- a step that wrote
 
+-- as many rows as that
+pub record Counted (n len : ℕ) (rows : List ℤ) (text : List ℕ) (r : ℕ) : Type 0 where
+  pub gave : Gave n len rows text
+  pub same : gave .count ≡ r
+
 pub step-gave : (c : CutSheet) (p : List ℕ) (b : Lent) (n : ℕ) → (step c p b) .answer ≡ written n
     → PacedBy ((step c p b) .answer) ((pushOf c p b) .answer) (c .number) ((step c p b) .rows)
-    → Gave (c .number) n ((step c p b) .rows) ((step c p b) .text)
+    → Counted (c .number) n ((step c p b) .rows) ((step c p b) .text) (rowsSaid ((pushOf c p b) .answer))
 unfolding step
 step-gave c p b n = by ((pushOf c p b) .answer) refl (tightText (length (b .text)) (c .splitter .pending + length p))
   where
@@ -82,17 +88,21 @@ step-gave c p b n = by ((pushOf c p b) .answer) refl (tightText (length (b .text
     by : (a : Answer) → (pushOf c p b) .answer ≡ a → (t : Bool)
         → (stepBy a t c b (pushOf c p b)) .answer ≡ written n
         → PacedBy ((stepBy a t c b (pushOf c p b)) .answer) a (c .number) ((stepBy a t c b (pushOf c p b)) .rows)
-        → Gave (c .number) n ((stepBy a t c b (pushOf c p b)) .rows) ((stepBy a t c b (pushOf c p b)) .text)
+        → Counted (c .number) n ((stepBy a t c b (pushOf c p b)) .rows) ((stepBy a t c b (pushOf c p b)) .text) (rowsSaid a)
     by (Answer.refused k) ea t w pace = no-answer w
     by (done u r m) ea true w pace = no-answer w
     by (done u r m) ea false w pace =
         record {
-          count = r;
-          paced = pace;
-          rows-in = omega (arith, rows-fit (c .splitter) e u r m ea, push-rows-length (c .splitter) e);
-          said = cc;
-          rest = drop (length (linesOf (c .number) r ((pushOf c p b) .rows))) (b .text);
-          lines = refl;
+          gave =
+              record {
+                count = r;
+                paced = pace;
+                rows-in = omega (arith, rows-fit (c .splitter) e u r m ea, push-rows-length (c .splitter) e);
+                said = cc;
+                rest = drop (length (linesOf (c .number) r ((pushOf c p b) .rows))) (b .text);
+                lines = refl;
+              };
+          same = refl;
         }
 
 module _ (n len : ℕ) (rows : List ℤ) (text : List ℕ) (g : Gave n len rows text) where
@@ -178,17 +188,21 @@ module _ (times rows : List ℤ) (text : List ℕ) (len m : ℕ) where
 module _ (s : Session) (p : List ℕ) (b : Lent) (answer : SheetAnswer) (sheet : CutSheet) (pend out : List ℕ)
     (rows : List ℤ) (text : List ℕ)
     (cut : stepped (sheetAnswer answer) sheet pend out rows text ≡ step (s .sheet) p b) where
+  abbrev said : ℕ
+  said = rowsSaid ((pushOf (s .sheet) p b) .answer)
+
   -- a refused step is the last
   pub heard-last : (times : List ℤ) (found : List (List ℕ)) (g : SplitterRefusal) → answer ≡ Refused g
       → hearing (record { sheet = sheet; «open» = false; «read_failed» = false }) (lent pend out rows text) found
       ≡ hear times (hearing s b found) p
   heard-last times found g e =
-      ap (λ (a : SheetAnswer). hearBy times (hearing s b found) (stepped (sheetAnswer a) sheet pend out rows text)) (sym e)
-      ∙ ap (hearBy times (hearing s b found)) cut
+      ap (λ (a : SheetAnswer). hearBy times (hearing s b found) said (stepped (sheetAnswer a) sheet pend out rows text))
+      (sym e)
+      ∙ ap (hearBy times (hearing s b found) said) cut
 
   module _ (len : ℕ) (e : answer ≡ Written len) where
     pub step-rows : PacedBy (sheetAnswer answer) ((pushOf (s .sheet) p b) .answer) (s .sheet .number) rows
-        → Gave (s .sheet .number) len rows text
+        → Counted (s .sheet .number) len rows text said
     step-rows pace =
         let f = step-fields cut in
         let x = step (s .sheet) p b in
@@ -197,15 +211,20 @@ module _ (s : Session) (p : List ℕ) (b : Lent) (answer : SheetAnswer) (sheet :
         subst (λ (a : Wrote). PacedBy a ((pushOf (s .sheet) p b) .answer) (s .sheet .number) (x .rows)) (f .0)
         (subst (PacedBy (sheetAnswer answer) ((pushOf (s .sheet) p b) .answer) (s .sheet .number)) (f .1 .1 .1 .1 .0)
         pace) in
-        subst (λ (l : List ℤ). Gave (s .sheet .number) len l text) (sym (f .1 .1 .1 .1 .0))
-        (subst (Gave (s .sheet .number) len (x .rows)) (sym (f .1 .1 .1 .1 .1)) (step-gave (s .sheet) p b len w paced))
+        subst (λ (l : List ℤ). Counted (s .sheet .number) len l text said) (sym (f .1 .1 .1 .1 .0))
+        (subst (λ (t : List ℕ). Counted (s .sheet .number) len (x .rows) t said) (sym (f .1 .1 .1 .1 .1))
+        (step-gave (s .sheet) p b len w paced))
 
     -- the times find their lines in it
     pub heard-on : (times : List ℤ) (was is : List (List ℕ)) → HeardOf times len rows text was is
-        → Gave (s .sheet .number) len rows text
+        → Counted (s .sheet .number) len rows text said
         → hearing (record { sheet = sheet; «open» = true; «read_failed» = false }) (lent pend out rows text) is
         ≡ hear times (hearing s b was) p
     heard-on times was is h g =
-        ap (hearing (record { sheet = sheet; «open» = true; «read_failed» = false }) (lent pend out rows text)) (h (s .sheet .number) g)
-        ∙ ap (λ (a : SheetAnswer). hearBy times (hearing s b was) (stepped (sheetAnswer a) sheet pend out rows text)) (sym e)
-        ∙ ap (hearBy times (hearing s b was)) cut
+        let n : len / lineLength ≡ said = count-is (s .sheet .number) len rows text (g .gave) ∙ g .same in
+        ap (hearing (record { sheet = sheet; «open» = true; «read_failed» = false }) (lent pend out rows text))
+        (h (s .sheet .number) (g .gave)
+        ∙ ap (λ (m : ℕ). heardLines (s .sheet .number) times (take (m * rowWidth) rows) was) n)
+        ∙ ap (λ (a : SheetAnswer). hearBy times (hearing s b was) said (stepped (sheetAnswer a) sheet pend out rows text))
+        (sym e)
+        ∙ ap (hearBy times (hearing s b was) said) cut

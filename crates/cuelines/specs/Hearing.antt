@@ -9,8 +9,9 @@ use lib.IntN.{ℤ}
 use lib.ListN.{length, take}
 use Rattle.splitter.specs.Bounds.{rowWidth}
 use Rattle.sheet.specs.Layout.{line}
+use Rattle.sheet.specs.Pushes.{rowsSaid}
 use Rattle.sheet.specs.Sheet.{linesOf}
-use Rattle.sheet.specs.Step.{Wrote, refused, written, Lent, lent, Step, step, lineLength, Paced}
+use Rattle.sheet.specs.Step.{Wrote, refused, written, Lent, lent, Step, pushOf, step, lineLength, Paced}
 use Rattle.sheet.specs.declared.sheet.CutSheet.{CutSheet}
 use Rattle.cues.specs.Cue.{placeIn}
 use Rattle.cues.specs.Places.{rowAt}
@@ -46,23 +47,24 @@ abbrev pub goesOn : Wrote → Bool
 goesOn (refused k) = false
 goesOn (written n) = true
 
--- the rows of a step that wrote n bytes: a line for each
-abbrev pub foundBy : Wrote → List ℤ → CutSheet → Step → List (List ℕ) → List (List ℕ)
-foundBy (refused k) times c x found = found
-foundBy (written n) times c x found =
-    heardLines (c .number) times (take (n / lineLength * rowWidth) (x .rows)) found
+-- the first count rows of a step that wrote
+abbrev pub foundBy : Wrote → List ℤ → CutSheet → ℕ → Step → List (List ℕ) → List (List ℕ)
+foundBy (refused k) times c count x found = found
+foundBy (written n) times c count x found = heardLines (c .number) times (take (count * rowWidth) (x .rows)) found
 
-abbrev pub hearBy : List ℤ → Hearing → Step → Hearing
-hearBy times h x =
+abbrev pub hearBy : List ℤ → Hearing → ℕ → Step → Hearing
+hearBy times h count x =
     record {
       sheet = x .state;
       «open» = goesOn (x .answer);
       buffers = lent (x .pend) (x .out) (x .rows) (x .text);
-      found = foundBy (x .answer) times (h .sheet) x (h .found);
+      found = foundBy (x .answer) times (h .sheet) count x (h .found);
     }
 
+-- as many as the step's push gave
 abbrev pub hear : List ℤ → Hearing → List ℕ → Hearing
-hear times h payload = hearBy times h (step (h .sheet) payload (h .buffers))
+hear times h payload =
+    hearBy times h (rowsSaid ((pushOf (h .sheet) payload (h .buffers)) .answer)) (step (h .sheet) payload (h .buffers))
 
 -- ---- payloads, one after the other, as long as it goes on
 

@@ -6,10 +6,10 @@ use native.Mathlib.Omega.{arith}
 use lib.IntN.{ℤ}
 use lib.ListN.{length}
 use denote.Ref.{now}
-use Rattle.sheet.specs.Step.{Lent, lent, sheetAnswer, stepped, step}
+use Rattle.sheet.specs.Pushes.{rowsSaid}
+use Rattle.sheet.specs.Step.{Lent, lent, pushOf}
 use Rattle.cuelines.specs.Found.{slots}
-use Rattle.cuelines.specs.Hearing.{Gave}
-use Rattle.cuelines.proofs.Lined.{heard-last, step-rows, heard-on}
+use Rattle.cuelines.proofs.Lined.{Counted, heard-last, step-rows, heard-on}
 use borrow.Author.Needs.{needs}
 use Rattle.cuelines.proofs.session.Session.cut_payload.Statement.{statement}
 use Rattle.cuelines.proofs.session.Session.cut_payload.Tie as tie
@@ -44,7 +44,8 @@ abbrev text : tie.After-cut → List ℕ
 text c = c .cut .last .1 .1 .1 .1 .1 .0
 
 gave : (c : tie.After-answer)
-    → Gave (start (written c) .args .self .sheet .number) (c .answer .given .0 .0) (rows (written c)) (text (written c))
+    → Counted (start (written c) .args .self .sheet .number) (c .answer .given .0 .0) (rows (written c)) (text (written c))
+    (rowsSaid ((pushOf (start (written c) .args .self .sheet) (now (start (written c) .args .payload)) (was (written c))) .answer))
 gave c =
     let k = written c in
     let s = start k .args in
@@ -85,7 +86,7 @@ returns c =
 keep-rows-requires : tie.Need-keep-rows-requires
 keep-rows-requires c κs =
     let a = c .before .before .before .before in
-    (record { number = start (written a) .args .self .sheet .number; gave = gave a }, start (written a) .pre .1 .1)
+    (record { number = start (written a) .args .self .sheet .number; gave = gave a .gave }, start (written a) .pre .1 .1)
 
 same-length-5 : tie.Need-same-length-5
 same-length-5 c = search needs
