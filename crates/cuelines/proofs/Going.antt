@@ -1,17 +1,21 @@
 -- The payloads of a block, one after the other. Assumes nothing.
-use mathlib.Core.Path.{_≡_, refl, sym, _∙_, ap}
+use mathlib.Core.Path.{_≡_, refl, sym, _∙_, ap, ap₂}
 use mathlib.Core.Bool.{Bool, true, false}
 use mathlib.Core.List.{List, [], _∷_}
 use Prim.Native.Nat.{ℕ, _+_, _-_, _≤_, _<_, min}
 use native.Mathlib.Omega.{arith}
+use lib.Dec.{ltb}
 use lib.IntN.{ℤ}
 use lib.ListN.{length, take, drop, drop-of-length-le}
 use Rattle.sheet.specs.Sheet.{payloadSize, payloadsOf}
 use Rattle.sheet.proofs.Sheets.{payloads-none, block-next}
-use Rattle.cuelines.specs.Hearing.{Hearing, hear, hearOn, hearAll}
+use Rattle.sheet.specs.Step.{Lent}
+use Rattle.text.specs.declared.input.Filled.{Filled}
+use Rattle.cuelines.specs.Hearing.{Hearing, hearing, hear, hearOn, hearAll, failedOf, afterBlock, shutBy, nextBy, NextHeard}
+use Rattle.cuelines.specs.declared.session.Session.{Session}
 
 -- a closed session stays as it is
-hear-closed : (times : List ℤ) (h : Hearing) (ps : List (List ℕ)) → h .«open» ≡ false → hearAll times h ps ≡ h
+pub hear-closed : (times : List ℤ) (h : Hearing) (ps : List (List ℕ)) → h .«open» ≡ false → hearAll times h ps ≡ h
 hear-closed times h [] e = refl
 hear-closed times h (p ∷ ps) e = ap (λ (b : Bool). hearOn b (hearAll times (hear times h p) ps) h) e
 
@@ -50,3 +54,37 @@ module _ (times : List ℤ) (block : List ℕ) (first : Hearing) (at : ℕ) (h :
 
   pub going-closed : h .«open» ≡ false → h ≡ hearAll times first (payloadsOf block)
   going-closed c = sym (g .rest ∙ hear-closed times h (payloadsOf (drop at block)) c)
+
+-- ---- what was read
+
+module _ (times : List ℤ) (s : Session) (b : Lent) (found : List (List ℕ)) (block : List ℕ) (filled : Filled)
+    (most : filled .len ≤ length block) where
+  -- a read failed
+  pub next-failed : (r : Session) → filled .failed ≡ true → r ≡ failedOf s
+      → NextHeard times (hearing s b found) block (r .«read_failed») (hearing r b found)
+  next-failed r f e =
+      record {
+        filled = filled;
+        most = most;
+        told = ap (λ (r : Session). r .«read_failed») e ∙ sym f;
+        heard =
+            ap (λ (r : Session). hearing r b found) e
+            ∙ ap (λ (t : Bool). nextBy t times (hearing s b found) (filled .len) block) (sym f);
+      }
+
+  -- the block was cut
+  pub next-heard : (t r : Session) (is : Lent) (now : List (List ℕ)) (last : Bool) (part : ℕ) → filled .failed ≡ false
+      → part ≡ filled .len → last ≡ ltb (filled .len) (length block)
+      → hearing t is now ≡ hearAll times (hearing s b found) (payloadsOf (take part block))
+      → r ≡ afterBlock t last
+      → NextHeard times (hearing s b found) block (r .«read_failed») (hearing r is now)
+  next-heard t r is now last part f p l h e =
+      record {
+        filled = filled;
+        most = most;
+        told = ap (λ (r : Session). r .«read_failed») e ∙ sym f;
+        heard =
+            ap (λ (r : Session). hearing r is now) e
+            ∙ ap₂ shutBy l (h ∙ ap (λ (n : ℕ). hearAll times (hearing s b found) (payloadsOf (take n block))) p)
+            ∙ ap (λ (t : Bool). nextBy t times (hearing s b found) (filled .len) block) (sym f);
+      }

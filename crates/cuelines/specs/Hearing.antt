@@ -1,20 +1,24 @@
 -- THE STEPS by which the program finds its lines: a step of the sheet for each payload, and for each time the line of
 -- the last row that counts among the payload's.
 use mathlib.Core.Path.{_≡_}
-use mathlib.Core.Bool.{Bool, true, false}
+use mathlib.Core.Bool.{Bool, true, false, cond}
 use mathlib.Core.Option.{Option, none, some}
 use mathlib.Core.List.{List, [], _∷_, _++_}
 use Prim.Native.Nat.{ℕ, suc, _+_, _*_, _/_, _≤_}
+use lib.Dec.{ltb}
 use lib.IntN.{ℤ}
-use lib.ListN.{length, take}
+use lib.ListN.{length, take, replicate}
 use Rattle.splitter.specs.Bounds.{rowWidth}
+use Rattle.splitter.specs.Demand.{join}
 use Rattle.sheet.specs.Layout.{line}
 use Rattle.sheet.specs.Pushes.{rowsSaid}
-use Rattle.sheet.specs.Sheet.{linesOf}
-use Rattle.sheet.specs.Step.{Wrote, refused, written, Lent, lent, Step, pushOf, step, lineLength, Paced}
+use Rattle.sheet.specs.Sheet.{linesOf, pendSize, payloadsOf, endOf}
+use Rattle.sheet.specs.Step.{Wrote, refused, written, Lent, lent, Step, newSheet, pushOf, step, lineLength, Paced}
 use Rattle.sheet.specs.declared.sheet.CutSheet.{CutSheet}
+use Rattle.text.specs.declared.input.Filled.{Filled}
 use Rattle.cues.specs.Cue.{placeIn}
 use Rattle.cues.specs.Places.{rowAt}
+use Rattle.cuelines.specs.Found.{nones}
 use Rattle.cuelines.specs.declared.session.Session.{Session}
 
 -- ---- the lines
@@ -75,6 +79,48 @@ hearOn false next h = h
 abbrev pub hearAll : List ℤ → Hearing → List (List ℕ) → Hearing
 hearAll times h [] = h
 hearAll times h (p ∷ ps) = hearOn (h .«open») (hearAll times (hear times h p) ps) h
+
+-- ---- what was read
+
+abbrev pub failedOf : Session → Session
+failedOf s = record { sheet = s .sheet; «open» = false; «read_failed» = true }
+
+abbrev pub afterBlock : Session → Bool → Session
+afterBlock s last = record { sheet = s .sheet; «open» = cond last false (s .«open»); «read_failed» = false }
+
+-- the session is closed behind the last block
+abbrev pub shutBy : Bool → Hearing → Hearing
+shutBy last h =
+    record { sheet = h .sheet; «open» = cond last false (h .«open»); buffers = h .buffers; found = h .found }
+
+-- a block that is not full is the last; one whose reading failed is left alone
+abbrev pub nextBy : Bool → List ℤ → Hearing → ℕ → List ℕ → Hearing
+nextBy true times h len block = shutBy true h
+nextBy false times h len block =
+    shutBy (ltb len (length block)) (hearAll times h (payloadsOf (take len block)))
+
+-- a block, so far as it was read, and the session after its payloads
+pub record NextHeard (times : List ℤ) (was : Hearing) (block : List ℕ) (failed : Bool) (is : Hearing) : Type 0 where
+  pub filled : Filled
+  pub most : filled .len ≤ length block
+  pub told : failed ≡ filled .failed
+  pub heard : is ≡ nextBy (filled .failed) times was (filled .len) block
+
+-- ---- a whole stream
+
+-- a new sheet, a pending buffer of zeros, the other buffers, and no line found yet
+abbrev pub newHearing : ℕ → List ℤ → List ℕ → List ℤ → List ℕ → Hearing
+newHearing code times out rows text =
+    record {
+      sheet = newSheet code;
+      «open» = true;
+      buffers = lent (replicate pendSize 0) out rows text;
+      found = nones (length times);
+    }
+
+-- what is printed at the end: the lines that were found, and the sheet's last line
+abbrev pub heardText : Hearing → List ℕ
+heardText h = join (h .found) ++ endOf (h .sheet .splitter)
 
 -- ---- what a step gives
 

@@ -30,7 +30,7 @@ ghost use Rattle.sheet.specs.Run.{Roomy};
 ghost use Rattle.sheet.specs.Sheet.{payloadSize, payloadsOf};
 ghost use Rattle.sheet.specs.Step.{lent, lineLength};
 ghost use Rattle.cuelines.specs.Found.{slots};
-ghost use Rattle.cuelines.specs.Hearing.{hearing, hear, hearAll};
+ghost use Rattle.cuelines.specs.Hearing.{hearing, hear, hearAll, failedOf, afterBlock, NextHeard};
 ghost use Rattle.cuelines.specs.Request.{timesMost};
 
 // Eight payloads are read at a time: a read for each would cost more time than the cutting.
@@ -107,7 +107,7 @@ fn print_cues(sheet: CutSheet, times: &[i64])
 }
 
 impl Session {
-    // Reads a block and cuts it. A block that is not full is the last one.
+    // Reads a block and cuts it.
     fn cut_next(
         self,
         block: &mut [u8],
@@ -120,22 +120,41 @@ impl Session {
     ) -> Self
         requires { ⌜ Roomy (length (now out)) (length (now rows)) (length (now text)) ⌝ }
         requires { ⌜ length (now times) * lineLength ≤ length (now found) ⌝ }
+        ensures { λ r. ⌜
+            NextHeard (now (times .entry)) (hearing self (lent (now (pending .entry)) (now (out .entry)) (now (rows .entry)) (now (text .entry))) (slots (length (now (times .entry))) (now (found .entry)))) (now (block .exit)) (r .«read_failed») (hearing r (lent (now (pending .exit)) (now (out .exit)) (now (rows .exit)) (now (text .exit))) (slots (length (now (times .entry))) (now (found .exit))))
+            ⌝ }
     {
         let filled = fill(block);
         if filled.failed {
-            let sheet = self.sheet;
-            return Session {
-                sheet,
-                open: false,
-                read_failed: true,
-            };
+            return self.failed();
         }
         let len = filled.len;
-        let mut session = self.cut_block(front(block, len), times, pending, out, rows, text, found);
-        if len < block.len() {
-            session.open = false;
+        let bytes: &[u8] = block;
+        let session = self.cut_block(&bytes[0..len], times, pending, out, rows, text, found);
+        session.after_block(len < bytes.len())
+    }
+
+    // Where a read fails, no frame that was found counts: a later one may sound at the time.
+    fn failed(self) -> Self
+        ensures { λ r. ⌜ r ≡ failedOf self ⌝ }
+    {
+        let sheet = self.sheet;
+        Session {
+            sheet,
+            open: false,
+            read_failed: true,
         }
-        session
+    }
+
+    // A block that is not full is the last one.
+    fn after_block(mut self, last: bool) -> Self
+        ensures { λ r. ⌜ r ≡ afterBlock self last ⌝ }
+    {
+        if last {
+            self.open = false;
+        }
+        self.read_failed = false;
+        self
     }
 
     fn cut_block(
@@ -203,7 +222,7 @@ impl Session {
         }
     }
 
-    // The found lines, and the sheet's last line; nothing, where a read failed: another frame may sound at a time.
+    // The found lines, and the sheet's last line; nothing, where a read failed.
     fn end(self, found: &[u8], len: usize, text: &mut [u8]) {
         if self.read_failed {
             report_read();
