@@ -181,7 +181,8 @@ module _ (times rows : List ℤ) (text was : List ℕ)
       here : getD new i [] ≡ lineIn text (placeIn rows (getD times i (pos 0))) (getD old i [])
       here = heard-at times rows text old i h same-size
 
-      by : (q : Option ℕ) → placeIn rows (getD times i (pos 0)) ≡ q → Right (getD times i (pos 0)) (rowCount rows) rows q
+      by : (q : Option ℕ) → placeIn rows (getD times i (pos 0)) ≡ q → Right (getD times i (pos 0)) (rowCount rows)
+          rows q
           → Kept (length times) new old (i + 1) was last
       by none f r =
           subst (Kept (length times) new old (i + 1) was)

@@ -88,7 +88,8 @@ step-gave c p b n = by ((pushOf c p b) .answer) refl (tightText (length (b .text
     by : (a : Answer) → (pushOf c p b) .answer ≡ a → (t : Bool)
         → (stepBy a t c b (pushOf c p b)) .answer ≡ written n
         → PacedBy ((stepBy a t c b (pushOf c p b)) .answer) a (c .number) ((stepBy a t c b (pushOf c p b)) .rows)
-        → Counted (c .number) n ((stepBy a t c b (pushOf c p b)) .rows) ((stepBy a t c b (pushOf c p b)) .text) (rowsSaid a)
+        → Counted (c .number) n ((stepBy a t c b (pushOf c p b)) .rows) ((stepBy a t c b (pushOf c p b)) .text)
+        (rowsSaid a)
     by (Answer.refused k) ea t w pace = no-answer w
     by (done u r m) ea true w pace = no-answer w
     by (done u r m) ea false w pace =
@@ -225,6 +226,7 @@ module _ (s : Session) (p : List ℕ) (b : Lent) (answer : SheetAnswer) (sheet :
         ap (hearing (record { sheet = sheet; «open» = true; «read_failed» = false }) (lent pend out rows text))
         (h (s .sheet .number) (g .gave)
         ∙ ap (λ (m : ℕ). heardLines (s .sheet .number) times (take (m * rowWidth) rows) was) n)
-        ∙ ap (λ (a : SheetAnswer). hearBy times (hearing s b was) said (stepped (sheetAnswer a) sheet pend out rows text))
+        ∙ ap (λ (a : SheetAnswer). hearBy times (hearing s b was) said
+        (stepped (sheetAnswer a) sheet pend out rows text))
         (sym e)
         ∙ ap (hearBy times (hearing s b was) said) cut

@@ -213,7 +213,8 @@ pub cues-heard : (code : ℕ) (times : List ℤ) (stream out : List ℕ) (rows :
     → heardText (hearAll times (newHearing code times out rows text) (payloadsOf stream)) ≡ cueText code times stream
 unfolding cueText pushesOf
 cues-heard code times stream out rows text room =
-    let all = sounded times (payloadsOf stream) (payloads-small stream) [] refl (newSheet code) (replicate pendSize 0) out
+    let all = sounded times (payloadsOf stream) (payloads-small stream) [] refl (newSheet code) (replicate pendSize 0)
+    out
     rows text refl room in
     ap
     (λ (f : List (List ℕ)). heardText (hearAll times (begin (newSheet code) (replicate pendSize 0) out rows text f)

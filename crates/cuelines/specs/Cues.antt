@@ -1,5 +1,5 @@
--- THE LINES AT CUES: what the program prints for a stream and a list of times. For each time the line of the sheet whose
--- frame sounds then, and behind them the sheet's last line.
+-- THE LINES AT CUES: what the program prints for a stream and a list of times. For each time the line of the sheet
+-- whose frame sounds then, and behind them the sheet's last line.
 use mathlib.Core.Option.{Option, none, some}
 use mathlib.Core.List.{List, [], _∷_, _++_, map}
 use Prim.Native.Nat.{ℕ, suc, _-_}

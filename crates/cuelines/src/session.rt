@@ -121,7 +121,10 @@ impl Session {
         requires { ⌜ Roomy (length (now out)) (length (now rows)) (length (now text)) ⌝ }
         requires { ⌜ length (now times) * lineLength ≤ length (now found) ⌝ }
         ensures { λ r. ⌜
-            NextHeard (now (times .entry)) (hearing self (lent (now (pending .entry)) (now (out .entry)) (now (rows .entry)) (now (text .entry))) (slots (length (now (times .entry))) (now (found .entry)))) (now (block .exit)) (r .«read_failed») (hearing r (lent (now (pending .exit)) (now (out .exit)) (now (rows .exit)) (now (text .exit))) (slots (length (now (times .entry))) (now (found .exit))))
+            NextHeard (now (times .entry))
+            (hearing self (lent (now (pending .entry)) (now (out .entry)) (now (rows .entry)) (now (text .entry))) (slots (length (now (times .entry))) (now (found .entry))))
+            (now (block .exit)) (r .«read_failed»)
+            (hearing r (lent (now (pending .exit)) (now (out .exit)) (now (rows .exit)) (now (text .exit))) (slots (length (now (times .entry))) (now (found .exit))))
             ⌝ }
     {
         let filled = fill(block);

@@ -101,7 +101,8 @@ module _ (time : ℤ) where
     count-is = omega (arith, rows-size F)
 
     right-is : Right time (length F) (rowsOf F) (placeIn (rowsOf F) time)
-    right-is = subst (λ (n : ℕ). Right time n (rowsOf F) (placeIn (rowsOf F) time)) count-is (place-right (rowsOf F) time)
+    right-is = subst (λ (n : ℕ). Right time n (rowsOf F) (placeIn (rowsOf F) time)) count-is
+        (place-right (rowsOf F) time)
 
     only-is : (q : Option ℕ) → Right time (length F) (rowsOf F) q → placeIn (rowsOf F) time ≡ q
     only-is q h = place-only (rowsOf F) time q (subst (λ (n : ℕ). Right time n (rowsOf F) q) (sym count-is) h)

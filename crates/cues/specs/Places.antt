@@ -1,5 +1,5 @@
--- What is said of a cue by places: which answer is right for a list of rows, and how the answers for two lists make that
--- for both, one behind the other.
+-- What is said of a cue by places: which answer is right for a list of rows, and how the answers for two lists make
+-- that for both, one behind the other.
 use mathlib.Core.Path.{_≡_}
 use mathlib.Core.Bool.{true, false}
 use mathlib.Core.Option.{Option, none, some}

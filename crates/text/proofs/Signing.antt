@@ -102,12 +102,14 @@ further-at at text {z} {next} e = by (placeAfter 45 at text) refl e
     by : (place : Place) → place ≡ placeAfter 45 at text → signedBy text at place ≡ SignedValue z next → at < next
     by (At digits) p e =
         let sign = found 45 at text refl p in
-        let number = number-read digits negativeMost text (negative-was (numberAt negativeMost digits text) e .is) refl in
+        let number = number-read digits negativeMost text (negative-was (numberAt negativeMost digits text) e .is)
+        refl in
         omega (arith, sign .behind, number .behind)
     by Nowhere p e =
         number-read at positiveMost text (positive-was (numberAt positiveMost at text) e .is) refl .behind
 
-pub signed-further : (separator at : ℕ) (text : List ℕ) {signed : Signed} {z : ℤ} {next : ℕ} → signed ≡ SignedValue z next
+pub signed-further : (separator at : ℕ) (text : List ℕ) {signed : Signed} {z : ℤ} {next : ℕ} → signed ≡ SignedValue z
+    next
     → signed ≡ signedAfter separator at text → at < next
 unfolding signedAfter
 signed-further separator at text {z = z} {next = next} e s = by (placeAfter separator at text) refl (sym s ∙ e)

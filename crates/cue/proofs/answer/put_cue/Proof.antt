@@ -24,7 +24,8 @@ put-found-requires c κs = search needs
 returns : tie.Need-returns
 returns c =
     let s = c .before .before .before .before .before in
-    cue-line (now (s .args .numbers)) (s .args .count) (s .args .time) _ (c .before .cue .result) (toZ-ofZ (s .fits .time)) (c .before .cue .ensures) (c .put-found .ensures)
+    cue-line (now (s .args .numbers)) (s .args .count) (s .args .time) _ (c .before .cue .result)
+    (toZ-ofZ (s .fits .time)) (c .before .cue .ensures) (c .put-found .ensures)
 
 pub put-cue-spec : {M : Type 1} → statement M
 put-cue-spec =

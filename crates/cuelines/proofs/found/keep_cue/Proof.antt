@@ -10,11 +10,13 @@ use borrow.Author.Needs.{needs}
 use Rattle.cuelines.proofs.found.keep_cue.Statement.{statement}
 use Rattle.cuelines.proofs.found.keep_cue.Tie as tie
 
-below : (c : tie.After-place) → c .place .given .0 .0 < rowCount (now (c .before .before .before .before .before .args .rows))
+below : (c : tie.After-place) → c .place .given .0 .0 < rowCount
+    (now (c .before .before .before .before .before .args .rows))
 below c =
     let a = c .before .before in
     let s = a .before .before .before in
-    place-in (a .cue .result) (now (s .args .rows)) (s .args .time) _ (s .pre .0) (toZ-ofZ (s .fits .time)) (a .cue .ensures)
+    place-in (a .cue .result) (now (s .args .rows)) (s .args .time) _ (s .pre .0) (toZ-ofZ (s .fits .time))
+    (a .cue .ensures)
     (c .place .given .0 .0) (c .place .given .1)
 
 cue-requires : tie.Need-cue-requires
@@ -50,7 +52,8 @@ returns c =
     let place = kept .before .before .before in
     let a = place .before .before in
     let s = a .before .before .before in
-    picked (a .cue .result) (now (s .args .rows)) (s .args .time) _ (s .pre .0) (toZ-ofZ (s .fits .time)) (a .cue .ensures)
+    picked (a .cue .result) (now (s .args .rows)) (s .args .time) _ (s .pre .0) (toZ-ofZ (s .fits .time))
+    (a .cue .ensures)
     (place .place .given .0 .0) (s .args .at) (now (s .args .text)) (now (s .args .found)) (kept .keep-line .last .0)
     (place .place .given .1) (kept .keep-line .ensures)
 
@@ -58,14 +61,16 @@ returns-2 : tie.Need-returns-2
 returns-2 c =
     let a = c .before .before in
     let s = a .before .before .before in
-    none-picked (a .cue .result) (now (s .args .rows)) (s .args .time) _ (s .pre .0) (toZ-ofZ (s .fits .time)) (a .cue .ensures)
+    none-picked (a .cue .result) (now (s .args .rows)) (s .args .time) _ (s .pre .0) (toZ-ofZ (s .fits .time))
+    (a .cue .ensures)
     (s .args .at) (now (s .args .text)) (now (s .args .found)) (c .enum-told .given .1)
 
 returns-3 : tie.Need-returns-3
 returns-3 c =
     let a = c .before .before in
     let s = a .before .before .before in
-    not-picked (a .cue .result) (now (s .args .rows)) (s .args .time) _ (s .pre .0) (toZ-ofZ (s .fits .time)) (a .cue .ensures) (c .enum-told2 .given .0 .0)
+    not-picked (a .cue .result) (now (s .args .rows)) (s .args .time) _ (s .pre .0) (toZ-ofZ (s .fits .time))
+    (a .cue .ensures) (c .enum-told2 .given .0 .0)
     (s .args .at) (now (s .args .text)) (now (s .args .found)) (c .enum-told2 .given .1)
 
 pub keep-cue-spec : {M : Type 1} → statement M

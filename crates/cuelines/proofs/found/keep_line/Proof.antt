@@ -18,7 +18,12 @@ abbrev μ-loop : tie.MeasureT-loop
 μ-loop found₀ at text from i₀ found i = 63 - i
 
 loop-holds : tie.Need-loop-holds Inv-loop μ-loop
-loop-holds c = (omega arith, paste-zero (now (c .args .found)) (c .args .at) (drop (c .args .from) (now (c .args .text))), omega arith)
+loop-holds c = (
+  omega arith,
+  paste-zero (now (c .args .found)) (c .args .at)
+      (drop (c .args .from) (now (c .args .text))),
+  omega arith,
+)
 
 add-found : tie.Need-add-found Inv-loop μ-loop
 add-found c = search needs
@@ -44,7 +49,8 @@ loop-again c =
     let s = h .before in (
       omega (arith, c .before .loop-test .taken),
       copy-next (now (s .args .found)) (h .loop .found) (now (s .args .text)) (s .args .at) (s .args .from) (h .loop .i)
-          (h .loop .inv .1) (omega (arith, c .before .loop-test .taken, s .pre .0)) (omega (arith, c .before .loop-test .taken, s .pre .1)),
+          (h .loop .inv .1) (omega (arith, c .before .loop-test .taken, s .pre .0))
+          (omega (arith, c .before .loop-test .taken, s .pre .1)),
       simp length-set (h .loop .inv .2),
     )
 

@@ -16,7 +16,8 @@ use Rattle.cuelines.proofs.found.keep_lines.Tie as tie
 
 abbrev Inv-loop : tie.InvT-loop
 Inv-loop found₀ times rows text i₀ i-end found i =
-    Kept (length times) (heardIn times rows text (slots (length times) found₀)) (slots (length times) found₀) i found₀ found
+    Kept (length times) (heardIn times rows text (slots (length times) found₀)) (slots (length times) found₀) i found₀
+    found
 
 abbrev μ-loop : tie.MeasureT-loop
 μ-loop found₀ times rows text i₀ i-end found i = i-end - i

@@ -18,7 +18,8 @@ abbrev μ-loop : tie.MeasureT-loop
 loop-holds : tie.Need-loop-holds Inv-loop μ-loop
 loop-holds c =
     let s = c .before in
-    kept-none (s .args .count) (nones (s .args .count)) (slots (s .args .count) (now (s .args .found))) (now (s .args .found))
+    kept-none (s .args .count) (nones (s .args .count)) (slots (s .args .count) (now (s .args .found)))
+    (now (s .args .found))
     (nones-length (s .args .count)) refl (s .pre)
 
 mul-keep-line : tie.Need-mul-keep-line Inv-loop μ-loop
@@ -48,8 +49,10 @@ loop-again c =
     let test = kept .before .before .before in
     let h = test .before in
     let s = h .before .before in
-    kept-copy (s .args .count) (nones (s .args .count)) (slots (s .args .count) (now (s .args .found))) (now (s .args .found))
-    (nones-length (s .args .count)) refl (s .pre) (h .loop .i) (h .loop .found) (kept .keep-line .last .0) noneText (h .loop .inv)
+    kept-copy (s .args .count) (nones (s .args .count)) (slots (s .args .count) (now (s .args .found)))
+    (now (s .args .found))
+    (nones-length (s .args .count)) refl (s .pre) (h .loop .i) (h .loop .found) (kept .keep-line .last .0) noneText
+    (h .loop .inv)
     (test .loop-test .taken) (kept .keep-line .ensures) (kept .keep-line .kept .0) (omega arith)
     (none-at (s .args .count) (h .loop .i) (test .loop-test .taken) ∙ none-text)
 
@@ -60,8 +63,10 @@ returns : tie.Need-returns Inv-loop μ-loop
 returns c =
     let h = c .before in
     let s = h .before .before in
-    kept-all (s .args .count) (nones (s .args .count)) (slots (s .args .count) (now (s .args .found))) (now (s .args .found))
-    (nones-length (s .args .count)) refl (s .pre) (h .loop .i) (h .loop .found) (h .loop .inv) (omega (arith, c .loop-test .left))
+    kept-all (s .args .count) (nones (s .args .count)) (slots (s .args .count) (now (s .args .found)))
+    (now (s .args .found))
+    (nones-length (s .args .count)) refl (s .pre) (h .loop .i) (h .loop .found) (h .loop .inv)
+    (omega (arith, c .loop-test .left))
 
 pub keep-none-spec : {M : Type 1} → statement M
 keep-none-spec =

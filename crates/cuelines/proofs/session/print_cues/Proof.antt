@@ -19,7 +19,8 @@ Inv-loop times block₀ pending₀ out₀ rows₀ text₀ found₀ session₀ tu
     × (length found ≡ timesMost * lineLength)
 
 abbrev μ-loop : tie.MeasureT-loop
-μ-loop times block₀ pending₀ out₀ rows₀ text₀ found₀ session₀ turns₀ block pending out rows text found session turns = turns
+μ-loop times block₀ pending₀ out₀ rows₀ text₀ found₀ session₀ turns₀ block pending out rows text found session turns =
+    turns
 
 slice-aggregate-keep-none : tie.Need-slice-aggregate-keep-none Inv-loop μ-loop
 slice-aggregate-keep-none c = search needs

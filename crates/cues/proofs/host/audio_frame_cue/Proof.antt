@@ -51,7 +51,8 @@ returns-2 c =
 returns-3 : tie.Need-returns-3
 returns-3 c =
     let a = c .before .before in
-    host-refused (a .cue .result) (now (a .before .args .rows)) (a .before .args .time) (told a) (c .enum-told2 .given .0 .0) (c .enum-told2 .given .1)
+    host-refused (a .cue .result) (now (a .before .args .rows)) (a .before .args .time) (told a)
+    (c .enum-told2 .given .0 .0) (c .enum-told2 .given .1)
 
 pub audio-frame-cue-spec : {M : Type 1} → statement M
 audio-frame-cue-spec =

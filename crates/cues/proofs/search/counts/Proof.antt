@@ -17,7 +17,8 @@ shared-slice-copy-out-result : tie.Need-shared-slice-copy-out-result
 shared-slice-copy-out-result c = search needs
 
 returns-2 : tie.Need-returns-2
-returns-2 c = counts-stamp (c .before .before .before .args .time) (now (c .before .before .before .args .row)) (search needs) (c .before .if1 .left) (toZ-ofZ (search needs)) (toZ-ofZ (c .before .before .before .fits .time))
+returns-2 c = counts-stamp (c .before .before .before .args .time) (now (c .before .before .before .args .row))
+    (search needs) (c .before .if1 .left) (toZ-ofZ (search needs)) (toZ-ofZ (c .before .before .before .fits .time))
 
 pub counts-spec : {M : Type 1} → statement M
 counts-spec =

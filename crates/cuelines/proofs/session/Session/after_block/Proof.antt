@@ -8,13 +8,23 @@ use Rattle.cuelines.proofs.session.Session.after_block.Tie as tie
 returns : tie.Need-returns
 returns c =
     let s = c .before .args in
-    ap (λ (last : Bool). record { sheet = s .self .sheet; «open» = cond last false (s .self .«open»); «read_failed» = false })
+    ap (λ (last : Bool). record {
+      sheet = s .self .sheet;
+      «open» = cond last false (s .self .«open»);
+      «read_failed» =
+          false;
+    })
     (sym (c .if1 .taken))
 
 returns-2 : tie.Need-returns-2
 returns-2 c =
     let s = c .before .args in
-    ap (λ (last : Bool). record { sheet = s .self .sheet; «open» = cond last false (s .self .«open»); «read_failed» = false })
+    ap (λ (last : Bool). record {
+      sheet = s .self .sheet;
+      «open» = cond last false (s .self .«open»);
+      «read_failed» =
+          false;
+    })
     (sym (c .if1 .left))
 
 pub after-block-spec : {M : Type 1} → statement M

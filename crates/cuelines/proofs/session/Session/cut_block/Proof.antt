@@ -49,7 +49,8 @@ start l = l .before .before .before .before .before .before
 
 abbrev first : tie.Start Inv-loop μ-loop → Hearing
 first s =
-    heard (length (s .args .times .now)) (s .args .self) (s .args .pending .now) (s .args .out .now) (s .args .rows .now)
+    heard (length (s .args .times .now)) (s .args .self) (s .args .pending .now) (s .args .out .now)
+    (s .args .rows .now)
     (s .args .text .now) (s .args .found .now)
 
 abbrev this : tie.At-loop Inv-loop μ-loop → Hearing
@@ -111,7 +112,9 @@ loop-again c =
         found-kept = k .cut-payload .kept .1 .1 .1 .1 .1 .1 .1 .0 ∙ kept .found-kept;
       },
       going-next (s .args .times .now) (s .args .block .now) (first s) (l .loop .at) (this l) (l .loop .inv .1)
-          (k .before .before .before .before .before .before .before .payload-end .result) _ (k .before .before .before .before .before .before .before .before .before .loop-test .taken) (k .before .before .before .before .before .before .before .before .if1 .taken)
+          (k .before .before .before .before .before .before .before .payload-end .result) _
+          (k .before .before .before .before .before .before .before .before .before .loop-test .taken)
+          (k .before .before .before .before .before .before .before .before .if1 .taken)
           (k .before .before .before .before .before .before .before .payload-end .ensures) (k .cut-payload .ensures),
     )
 
@@ -134,7 +137,8 @@ returns : tie.Need-returns Inv-loop μ-loop
 returns c =
     let l = c .before .before in
     let s = start l in
-    going-closed (s .args .times .now) (s .args .block .now) (first s) (l .loop .at) (this l) (l .loop .inv .1) (c .if1 .left)
+    going-closed (s .args .times .now) (s .args .block .now) (first s) (l .loop .at) (this l) (l .loop .inv .1)
+    (c .if1 .left)
 
 same-length-6 : tie.Need-same-length-6 Inv-loop μ-loop
 same-length-6 c = search needs

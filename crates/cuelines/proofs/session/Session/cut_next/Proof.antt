@@ -66,7 +66,8 @@ after-block-requires : tie.Need-after-block-requires
 after-block-requires c κs = search needs
 
 same-length-2 : tie.Need-same-length-2
-same-length-2 c = filling (c .before .before .before .before .before .before .before .before .before .before) .fill .kept .0
+same-length-2 c = filling (c .before .before .before .before .before .before .before .before .before .before) .fill
+    .kept .0
 
 same-length-3 : tie.Need-same-length-3
 same-length-3 c = search needs
@@ -92,8 +93,10 @@ returns-2 c =
     next-heard (now (s .args .times)) (s .args .self) (was s) (found s) (f .fill .last .0) (f .fill .result) (most f)
     (k .cut-block .result) (c .after-block .result)
     (lent (last .1 .1 .1 .0) (last .1 .1 .1 .1 .0) (last .1 .1 .1 .1 .1 .0) (last .1 .1 .1 .1 .1 .1 .0))
-    (slots (length (now (s .args .times))) (last .1 .1 .1 .1 .1 .1 .1 .0)) (ltb (f .fill .result .len) (length (f .fill .last .0)))
-    (f .fill .result .len - 0) (k .before .before .before .before .before .before .before .before .if1 .left) (omega arith) refl (k .cut-block .ensures) (c .after-block .ensures)
+    (slots (length (now (s .args .times))) (last .1 .1 .1 .1 .1 .1 .1 .0))
+    (ltb (f .fill .result .len) (length (f .fill .last .0)))
+    (f .fill .result .len - 0) (k .before .before .before .before .before .before .before .before .if1 .left)
+    (omega arith) refl (k .cut-block .ensures) (c .after-block .ensures)
 
 pub cut-next-spec : {M : Type 1} → statement M
 cut-next-spec =

@@ -44,8 +44,10 @@ abbrev text : tie.After-cut → List ℕ
 text c = c .cut .last .1 .1 .1 .1 .1 .0
 
 gave : (c : tie.After-answer)
-    → Counted (start (written c) .args .self .sheet .number) (c .answer .given .0 .0) (rows (written c)) (text (written c))
-    (rowsSaid ((pushOf (start (written c) .args .self .sheet) (now (start (written c) .args .payload)) (was (written c))) .answer))
+    → Counted (start (written c) .args .self .sheet .number) (c .answer .given .0 .0) (rows (written c))
+    (text (written c))
+    (rowsSaid ((pushOf (start (written c) .args .self .sheet) (now (start (written c) .args .payload))
+    (was (written c))) .answer))
 gave c =
     let k = written c in
     let s = start k .args in
@@ -85,8 +87,11 @@ returns c =
 
 keep-rows-requires : tie.Need-keep-rows-requires
 keep-rows-requires c κs =
-    let a = c .before .before .before .before in
-    (record { number = start (written a) .args .self .sheet .number; gave = gave a .gave }, start (written a) .pre .1 .1)
+    let a = c .before .before .before .before in (
+      record { number = start (written a) .args .self .sheet .number; gave = gave a .gave },
+      start (written a) .pre .1
+          .1,
+    )
 
 same-length-5 : tie.Need-same-length-5
 same-length-5 c = search needs
