@@ -125,8 +125,12 @@ wrong_usage() {
           2 or adts   AAC in ADTS                         .aac .adts
   FILE    the stream. - stands for standard input, and'
   wrong help no-status-3 '3 the stream has' '4 the stream has'
-  wrong cues cue-behind-the-end 'print (cue < end ? frame : "no frame at " cue)' 'print frame'
-  wrong cues end-without-the-rate '$4 * 90000 / $5' '$4'
+  wrong cues cue-that-is-no-time '  ./cue 2 track.adts 1:23.5
+
+By hand' '  ./cue 2 track.adts 1.23.5
+
+By hand'
+  wrong cues cue-in-milliseconds '83.5 x 90000 = 7515000 ticks' '83.5 x 1000 = 83500 ticks'
 }
 
 wrong_builds() {

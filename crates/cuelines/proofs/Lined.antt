@@ -5,23 +5,24 @@ use mathlib.Core.Option.{Option, none, some}
 use mathlib.Core.List.{List, [], _∷_, _++_, append-assoc}
 use Prim.Native.Nat.{ℕ, suc, _+_, _-_, _*_, _/_, _≤_, _<_}
 use native.Mathlib.Omega.{arith}
+use borrow.Author.Tests.{le-ltb}
 use lib.IntN.{ℤ}
 use lib.ListN.{length, take, drop, length-append, length-drop}
 use lib.Seq.{take-at, drop-at, take-take, length-take-le}
-use Rattle.splitter.specs.Answer.{Answer, done}
+use Rattle.splitter.specs.Answer.{Answer, done, callNumber}
 use Rattle.splitter.specs.Bounds.{rowWidth}
-use Rattle.splitter.specs.Push.{Event, event}
+use Rattle.splitter.specs.Push.{Event, event, over}
 use Rattle.splitter.specs.declared.answer.SplitterRefusal.{SplitterRefusal}
 use Rattle.splitter.proofs.Laws.{rows-fit, push-rows-length}
 use Rattle.sheet.specs.Layout.{line}
 use Rattle.sheet.specs.Pushes.{rowsSaid}
-use Rattle.sheet.specs.Sheet.{timeOf, linesOf}
-use Rattle.sheet.specs.Step.{Wrote, refused, written, sheetAnswer, Lent, lent, stepped, stepBy, pushOf, tightText, step, lineLength, Paced, PacedBy}
+use Rattle.sheet.specs.Sheet.{timeOf, linesOf, endOf}
+use Rattle.sheet.specs.Step.{Wrote, refused, written, sheetAnswer, Lent, lent, stepped, stepBy, pushOf, tightText, step, lineLength, Paced, PacedBy, endMost, ended, endIf, finish}
 use Rattle.sheet.specs.declared.sheet.CutSheet.{CutSheet}
 use Rattle.sheet.specs.declared.sheet.SheetAnswer.{SheetAnswer}
 use Rattle.sheet.specs.declared.sheet.SheetAnswer.the-variants.{Refused, Written}
 use Rattle.sheet.proofs.Lines.{drop-front, lines-split}
-use Rattle.sheet.proofs.Stepping.{step-fields}
+use Rattle.sheet.proofs.Stepping.{end-fields, step-fields}
 use Rattle.cues.specs.Cue.{rowCount, placeIn}
 use Rattle.cues.specs.Places.{Whole, rowAt, Right}
 use Rattle.cues.proofs.Laws.{place-right}
@@ -230,3 +231,27 @@ module _ (s : Session) (p : List ℕ) (b : Lent) (answer : SheetAnswer) (sheet :
         (stepped (sheetAnswer a) sheet pend out rows text))
         (sym e)
         ∙ ap (hearBy times (hearing s b was) said) cut
+
+-- ---- the last line, where the text has room for it
+
+finish-long : (c : CutSheet) (text : List ℕ) → endMost ≤ length text → finish c text ≡ endIf false c text
+unfolding finish
+finish-long c text h = ap (λ (b : Bool). endIf b c text) (le-ltb (length text) endMost h)
+
+module _ (a : SheetAnswer) (c : CutSheet) (text last : List ℕ) (e : ended (sheetAnswer a) last ≡ finish c text)
+    (h : endMost ≤ length text) where
+  fields : (sheetAnswer a ≡ written (length (endOf (c .splitter)))) × (last ≡ over (endOf (c .splitter)) text)
+  fields = end-fields (e ∙ finish-long c text h)
+
+  pub end-written : (n : ℕ) → a ≡ Written n
+      → (n ≡ length (endOf (c .splitter))) × (last ≡ over (endOf (c .splitter)) text)
+  end-written n ea =
+      let w : written n ≡ written (length (endOf (c .splitter))) = sym (ap sheetAnswer ea) ∙ fields .0 in
+      let is : n ≡ length (endOf (c .splitter)) = cc in
+      (is, fields .1)
+
+  -- it is not refused
+  pub end-refused {ℓ} : {A : Type ℓ} → (g : SplitterRefusal) → a ≡ Refused g → A
+  end-refused g ea =
+      let w : refused (callNumber g) ≡ written (length (endOf (c .splitter))) = sym (ap sheetAnswer ea) ∙ fields .0 in
+      absurd (let no : _≡_ {A = ℕ} 0 1 = cc in let none : ⊥ = omega arith in none)

@@ -5,7 +5,7 @@ use text::fill;
 use text::signed_after;
 ghost use Rattle.cuelines.specs.Request.{Counted};
 
-// How many bytes the line may have, and its line feed: any times have no more, if they have no leading zeros.
+// 700 bytes, and the line feed. The longest line without leading zeros has 673: 32 times of 20 characters.
 pub const FIRST_LINE_MAX: usize = 701;
 
 pub enum FirstLine {

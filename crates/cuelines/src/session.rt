@@ -27,8 +27,9 @@ ghost use mathlib.Core.Path.{_≡_};
 ghost use Prim.Native.Nat.{_*_, _≤_};
 ghost use lib.ListN.{length};
 ghost use Rattle.sheet.specs.Run.{Roomy};
-ghost use Rattle.sheet.specs.Sheet.{payloadSize, payloadsOf};
-ghost use Rattle.sheet.specs.Step.{lent, lineLength};
+ghost use Rattle.splitter.specs.Push.{over};
+ghost use Rattle.sheet.specs.Sheet.{payloadSize, payloadsOf, endOf};
+ghost use Rattle.sheet.specs.Step.{lent, lineLength, endMost};
 ghost use Rattle.cuelines.specs.Found.{slots};
 ghost use Rattle.cuelines.specs.Hearing.{hearing, hear, hearAll, failedOf, afterBlock, NextHeard};
 ghost use Rattle.cuelines.specs.Request.{timesMost};
@@ -226,7 +227,9 @@ impl Session {
     }
 
     // The found lines, and the sheet's last line; nothing, where a read failed.
-    fn end(self, found: &[u8], len: usize, text: &mut [u8]) {
+    fn end(self, found: &[u8], len: usize, text: &mut [u8])
+        requires { ⌜ endMost ≤ length (now text) ⌝ }
+    {
         if self.read_failed {
             report_read();
             return;
@@ -235,7 +238,7 @@ impl Session {
         let written = lines.written(found);
         let sheet = self.sheet;
         let last = Output {
-            len: count_of(sheet.finish(text)),
+            len: put_end(sheet, text),
             failed: written.failed,
         };
         let whole = last.written(text);
@@ -243,8 +246,13 @@ impl Session {
     }
 }
 
-fn count_of(answer: SheetAnswer) -> usize {
-    match answer {
+// Writes the sheet's last line to the front of the text, and answers how many bytes it has.
+fn put_end(sheet: CutSheet, text: &mut [u8]) -> usize
+    requires { ⌜ endMost ≤ length (now text) ⌝ }
+    ensures { λ r. ⌜ r ≡ length (endOf (sheet .splitter)) ⌝ }
+    ensures { λ _. ⌜ now (text .exit) ≡ over (endOf (sheet .splitter)) (now (text .entry)) ⌝ }
+{
+    match sheet.finish(text) {
         SheetAnswer::Written(count) => count,
         SheetAnswer::Refused(_) => 0,
     }

@@ -22,7 +22,7 @@ use Rattle.splitter.proofs.Instances.{eac3, pushes, given-eac3}
 use Rattle.cues.specs.Cue.{counts, placeIn, Answer, refused, found, cueOf}
 use Rattle.cues.specs.Span.{Sounds, Rising}
 use Rattle.cues.proofs.Laws.{cue-joined}
-use Rattle.cues.proofs.Sounding.{cue-finds}
+use Rattle.cues.proofs.Sounding.{cue-finds, cue-none}
 
 -- ---- frames
 
@@ -44,6 +44,12 @@ pub cue-eac3 : cueOf (allRows (run (new 0) (pushes [] eac3 3 7))) (pos 3999) ≡
 cue-eac3 =
     cue-finds 0 Ac3 1536 48000 (eac3 ∷ eac3 ∷ eac3 ∷ []) (pushes [] eac3 3 7) given-eac3 rise-eac3 (pos 3999) 1
     sounds-eac3
+
+-- one tick before the first begins, none does
+pub early-eac3 : cueOf (allRows (run (new 0) (pushes [] eac3 3 7))) (pos 999) ≡ found none
+unfolding headOf a52Head byBsid nfchans eac3Judged eac3TailWidths fscod2Bits numblkscodBits refuseIf number far farPts tightOf tailAt limit
+early-eac3 =
+    cue-none 0 Ac3 1536 48000 (eac3 ∷ eac3 ∷ eac3 ∷ []) (pushes [] eac3 3 7) given-eac3 rise-eac3 (pos 999) (ltZ-yes tt)
 
 -- ---- rows
 
