@@ -1,5 +1,5 @@
 -- The payloads of a block, one after the other. Assumes nothing.
-use mathlib.Core.Path.{_≡_, refl, sym, _∙_, ap, ap₂}
+use mathlib.Core.Path.{_≡_, refl, sym, _∙_, ap}
 use mathlib.Core.Bool.{Bool, true, false}
 use mathlib.Core.List.{List, [], _∷_}
 use Prim.Native.Nat.{ℕ, _+_, _-_, _≤_, _<_, min}
@@ -11,7 +11,7 @@ use Rattle.sheet.specs.Sheet.{payloadSize, payloadsOf}
 use Rattle.sheet.proofs.Sheets.{payloads-none, block-next}
 use Rattle.sheet.specs.Step.{Lent}
 use Rattle.text.specs.declared.input.Filled.{Filled}
-use Rattle.cuelines.specs.Hearing.{Hearing, hearing, hear, hearOn, hearAll, failedOf, afterBlock, shutBy, nextBy, NextHeard}
+use Rattle.cuelines.specs.Hearing.{Hearing, hearing, hear, hearOn, hearAll, afterRead, shutBy, NextHeard}
 use Rattle.cuelines.specs.declared.session.Session.{Session}
 
 -- a closed session stays as it is
@@ -57,34 +57,18 @@ module _ (times : List ℤ) (block : List ℕ) (first : Hearing) (at : ℕ) (h :
 
 -- ---- what was read
 
-module _ (times : List ℤ) (s : Session) (b : Lent) (found : List (List ℕ)) (block : List ℕ) (filled : Filled)
-    (most : filled .len ≤ length block) where
-  -- a read failed
-  pub next-failed : (r : Session) → filled .failed ≡ true → r ≡ failedOf s
-      → NextHeard times (hearing s b found) block (r .«read_failed») (hearing r b found)
-  next-failed r f e =
-      record {
-        filled = filled;
-        most = most;
-        told = ap (λ (r : Session). r .«read_failed») e ∙ sym f;
-        heard =
-            ap (λ (r : Session). hearing r b found) e
-            ∙ ap (λ (t : Bool). nextBy t times (hearing s b found) (filled .len) block) (sym f);
-      }
-
-  -- the block was cut
-  pub next-heard : (t r : Session) (is : Lent) (now : List (List ℕ)) (last : Bool) (part : ℕ) → filled .failed ≡ false
-      → part ≡ filled .len → last ≡ ltb (filled .len) (length block)
-      → hearing t is now ≡ hearAll times (hearing s b found) (payloadsOf (take part block))
-      → r ≡ afterBlock t last
-      → NextHeard times (hearing s b found) block (r .«read_failed») (hearing r is now)
-  next-heard t r is now last part f p l h e =
-      record {
-        filled = filled;
-        most = most;
-        told = ap (λ (r : Session). r .«read_failed») e ∙ sym f;
-        heard =
-            ap (λ (r : Session). hearing r is now) e
-            ∙ ap₂ shutBy l (h ∙ ap (λ (n : ℕ). hearAll times (hearing s b found) (payloadsOf (take n block))) p)
-            ∙ ap (λ (t : Bool). nextBy t times (hearing s b found) (filled .len) block) (sym f);
-      }
+-- a block is read, so far as it goes, and its payloads are cut
+pub next-heard : (times : List ℤ) (was : Hearing) (block : List ℕ) (filled : Filled) → filled .len ≤ length block
+    → (t r : Session) (b : Lent) (found : List (List ℕ)) (part : ℕ) → part ≡ filled .len
+    → hearing t b found ≡ hearAll times was (payloadsOf (take part block)) → r ≡ afterRead t filled (length block)
+    → NextHeard times was block (r .«read_failed») (hearing r b found)
+next-heard times was block filled most t r b found part p h e =
+    record {
+      filled = filled;
+      most = most;
+      told = ap (λ (r : Session). r .«read_failed») e;
+      heard =
+          ap (λ (r : Session). hearing r b found) e
+          ∙ ap (shutBy (ltb (filled .len) (length block)))
+          (h ∙ ap (λ (n : ℕ). hearAll times was (payloadsOf (take n block))) p);
+    }

@@ -82,29 +82,22 @@ hearAll times h (p ∷ ps) = hearOn (h .«open») (hearAll times (hear times h p
 
 -- ---- what was read
 
-abbrev pub failedOf : Session → Session
-failedOf s = record { sheet = s .sheet; «open» = false; «read_failed» = true }
+-- a block that is not full is the last
+abbrev pub afterRead : Session → Filled → ℕ → Session
+afterRead s f room =
+    record { sheet = s .sheet; «open» = cond (ltb (f .len) room) false (s .«open»); «read_failed» = f .failed }
 
-abbrev pub afterBlock : Session → Bool → Session
-afterBlock s last = record { sheet = s .sheet; «open» = cond last false (s .«open»); «read_failed» = false }
-
--- the session is closed behind the last block
 abbrev pub shutBy : Bool → Hearing → Hearing
 shutBy last h =
     record { sheet = h .sheet; «open» = cond last false (h .«open»); buffers = h .buffers; found = h .found }
-
--- a block that is not full is the last; one whose reading failed is left alone
-abbrev pub nextBy : Bool → List ℤ → Hearing → ℕ → List ℕ → Hearing
-nextBy true times h len block = shutBy true h
-nextBy false times h len block =
-    shutBy (ltb len (length block)) (hearAll times h (payloadsOf (take len block)))
 
 -- a block, so far as it was read, and the session after its payloads
 pub record NextHeard (times : List ℤ) (was : Hearing) (block : List ℕ) (failed : Bool) (is : Hearing) : Type 0 where
   pub filled : Filled
   pub most : filled .len ≤ length block
   pub told : failed ≡ filled .failed
-  pub heard : is ≡ nextBy (filled .failed) times was (filled .len) block
+  pub heard :
+      is ≡ shutBy (ltb (filled .len) (length block)) (hearAll times was (payloadsOf (take (filled .len) block)))
 
 -- ---- a whole stream
 

@@ -19,6 +19,7 @@ use sheet::PENDING_LEN;
 use sheet::ROWS_LEN;
 use sheet::SheetAnswer;
 use sheet::payload_end;
+use text::Filled;
 use text::Output;
 use text::fill;
 use text::front;
@@ -31,7 +32,7 @@ ghost use Rattle.splitter.specs.Push.{over};
 ghost use Rattle.sheet.specs.Sheet.{payloadSize, payloadsOf, endOf};
 ghost use Rattle.sheet.specs.Step.{lent, lineLength, endMost};
 ghost use Rattle.cuelines.specs.Found.{slots};
-ghost use Rattle.cuelines.specs.Hearing.{hearing, hear, hearAll, failedOf, afterBlock, NextHeard};
+ghost use Rattle.cuelines.specs.Hearing.{hearing, hear, hearAll, afterRead, NextHeard};
 ghost use Rattle.cuelines.specs.Request.{timesMost};
 
 // Eight payloads are read at a time: a read for each would cost more time than the cutting.
@@ -108,7 +109,8 @@ fn print_cues(sheet: CutSheet, times: &[i64])
 }
 
 impl Session {
-    // Reads a block and cuts it.
+    // Reads a block and cuts it, also where a read failed: then nothing is printed. A test for that before the cutting
+    // would make it rare in the compiler's eyes, which then inlines less, and a line takes a third longer.
     fn cut_next(
         self,
         block: &mut [u8],
@@ -129,35 +131,20 @@ impl Session {
             ⌝ }
     {
         let filled = fill(block);
-        if filled.failed {
-            return self.failed();
-        }
         let len = filled.len;
         let bytes: &[u8] = block;
         let session = self.cut_block(&bytes[0..len], times, pending, out, rows, text, found);
-        session.after_block(len < bytes.len())
-    }
-
-    // Where a read fails, no frame that was found counts: a later one may sound at the time.
-    fn failed(self) -> Self
-        ensures { λ r. ⌜ r ≡ failedOf self ⌝ }
-    {
-        let sheet = self.sheet;
-        Session {
-            sheet,
-            open: false,
-            read_failed: true,
-        }
+        session.after_read(filled, bytes.len())
     }
 
     // A block that is not full is the last one.
-    fn after_block(mut self, last: bool) -> Self
-        ensures { λ r. ⌜ r ≡ afterBlock self last ⌝ }
+    fn after_read(mut self, filled: Filled, room: usize) -> Self
+        ensures { λ r. ⌜ r ≡ afterRead self filled room ⌝ }
     {
-        if last {
+        if filled.len < room {
             self.open = false;
         }
-        self.read_failed = false;
+        self.read_failed = filled.failed;
         self
     }
 
@@ -226,7 +213,7 @@ impl Session {
         }
     }
 
-    // The found lines, and the sheet's last line; nothing, where a read failed.
+    // The found lines, and the sheet's last line. Nothing, where a read failed: a later frame may sound at a time.
     fn end(self, found: &[u8], len: usize, text: &mut [u8])
         requires { ⌜ endMost ≤ length (now text) ⌝ }
     {

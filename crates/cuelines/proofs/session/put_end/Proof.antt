@@ -21,7 +21,8 @@ returns : tie.Need-returns
 returns c =
     let f = c .before .before .before .before .before in
     let s = f .before .before .before in
-    end-written (f .finish .result) (s .args .sheet) (now (s .args .text)) (f .finish .last .1 .0) (f .finish .ensures) (s .pre)
+    end-written (f .finish .result) (s .args .sheet) (now (s .args .text)) (f .finish .last .1 .0)
+    (f .finish .ensures) (s .pre)
     (c .before .count .given .0 .0) (c .before .count .given .1)
 
 same-length-2 : tie.Need-same-length-2
