@@ -15,9 +15,9 @@ pub of-size : (part : FrameSize → ℕ) (k x : ℕ) → x ≡ getD (map part fr
 of-size part k x e = e ∙ List·getD-map part frameSizes k noSize
 
 -- the tables of bit rates
-pub of-rates : (part : BitRates → ℕ) (rates : List BitRates) (k : ℕ)
-    → getD (map part rates) k (part noRates) ≡ part (getD rates k noRates)
-of-rates part rates k = List·getD-map part rates k noRates
+pub of-rates : (part : BitRates → ℕ) (rates : List BitRates) (k x : ℕ) → x ≡ getD (map part rates) k (part noRates)
+    → x ≡ part (getD rates k noRates)
+of-rates part rates k x e = e ∙ List·getD-map part rates k noRates
 
 -- the code has each bit rate of Table 5.18 once, for two frmsizecod
 abbrev pub kbpsByPairs : List ℕ

@@ -1,17 +1,20 @@
 -- How a judgement is shown at a `return`: each ground that was passed is not there, and the one that stopped it is.
 -- `search grounds depth N` finds the tests in what is known at the place. Assumes nothing.
-use mathlib.Core.Path.{_≡_, refl, ap}
+use mathlib.Core.Path.{_≡_, refl, sym, ap, _∙_}
 use mathlib.Core.Bool.{Bool, true, false, not, cond, _&&_}
 use Prim.Native.Nat.{ℕ, suc, _<_, _≤_}
 use lib.Dec.{T, eqb, ltb, leb, eqb→eq}
 use native.Mathlib.Nat.{le-of-suc-le-suc}
+use native.Mathlib.Omega.{arith}
 use Rattle.heads.proofs.Entries.{least, most}
 use borrow.Author.Tests.{lt-ltb, le-ltb, eq-eqb, ne-eqb, le-leb, lt-leb}
-use Rattle.heads.specs.Judge.{refuseIf}
+use Rattle.heads.specs.Judge.{refuseIf, verdictOf}
 use Rattle.heads.specs.Numbers.{headAnswer}
 use Rattle.heads.specs.declared.info.Head.{Head}
-use Rattle.heads.specs.declared.info.Head.the-variants.{Refused}
+use Rattle.heads.specs.declared.info.Head.the-variants.{Read, Refused}
 use Rattle.heads.specs.declared.info.Refusal.{Refusal}
+use Rattle.heads.specs.declared.info.Verdict.{Verdict}
+use Rattle.heads.specs.declared.info.Verdict.the-variants.{Accepted}
 
 -- a head that is the defined one has its number and its values
 pub answered : {x h : Head} → x ≡ h → (x ≡ h) × (headAnswer x ≡ headAnswer h)
@@ -24,6 +27,31 @@ stop t n rest e = rw e
 pub pass : (t : Bool) (n : Refusal) (x rest : Head) → t ≡ false → x ≡ rest → x ≡ refuseIf t n rest
 unfolding refuseIf
 pass t n x rest e p = rw e p
+
+-- the same of the verdict alone
+pub stop-verdict : (t : Bool) (n : Refusal) (rest : Head) → t ≡ true → Verdict.Refused n ≡ verdictOf (refuseIf t n rest)
+unfolding refuseIf
+stop-verdict t n rest e = rw e
+
+pub pass-verdict : (t : Bool) (n : Refusal) (v : Verdict) (rest : Head) → t ≡ false → v ≡ verdictOf rest
+    → v ≡ verdictOf (refuseIf t n rest)
+unfolding refuseIf
+pass-verdict t n v rest e p = rw e p
+
+-- and back: a head with that verdict is refused on its ground, and one that is accepted passed each ground
+accepted-not : (ground : Refusal) → Accepted ≡ Verdict.Refused ground → ⊥
+accepted-not ground e = let z : _≡_ {A = ℕ} 0 1 = cc in omega arith
+
+pub refused-on : (v : Verdict) (ground : Refusal) (h : Head) → v ≡ verdictOf h → v ≡ Verdict.Refused ground
+    → Refused ground ≡ h
+refused-on v ground (Read i) is e = absurd (accepted-not ground (sym is ∙ e))
+refused-on v ground (Refused g) is e = let same : g ≡ ground = cc in ap Refused (sym same)
+
+pub passed : (t : Bool) (ground : Refusal) (rest : Head) → Accepted ≡ verdictOf (refuseIf t ground rest)
+    → (t ≡ false) × (Accepted ≡ verdictOf rest)
+unfolding refuseIf
+passed true ground rest e = absurd (accepted-not ground e)
+passed false ground rest e = (refl, e)
 
 -- of a value by cases, the case that the tests chose
 pub yes-is : {A : Type 0} (t : Bool) (x a b : A) → t ≡ true → x ≡ a → x ≡ cond t a b
@@ -79,3 +107,5 @@ pub le-ltb-of : (a b n : ℕ) → n ≡ b → n ≤ a → ltb a b ≡ false
 le-ltb-of a b n e p = le-ltb a b (rw e at p)
 
 pub ruleset grounds = (stop, pass, yes-is, no-is, differs, agrees, other, at-most, not-at-most, both-hold, first-fails, second-fails, lt-ltb-of, le-ltb-of, least, most, tt, lt-ltb, le-ltb, eq-eqb, ne-eqb, le-leb, lt-leb)
+
+pub ruleset verdicts = (stop-verdict, pass-verdict)

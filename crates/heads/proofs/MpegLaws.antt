@@ -4,20 +4,24 @@ use mathlib.Core.List.{List}
 use Prim.Native.Nat.{ℕ, _≤_, _<_, _+_, _*_, _/_, _%_}
 use native.Mathlib.Nat.{mul-one}
 use native.Mathlib.Omega.{arith}
-use mathlib.Core.Bool.{cond}
+use mathlib.Core.Bool.{true, false, not, cond}
 use lib.Dec.{eqb}
 use lib.ListN.{length, getD, List·getD-eq-default}
-use borrow.Author.Tests.{lt-ltb, le-ltb}
-use Rattle.heads.specs.Bits.{Bytes, number}
-use Rattle.heads.specs.Judge.{refuseIf}
-use Rattle.heads.proofs.Grounds.{either-is}
-use Rattle.heads.specs.Mpeg.{bitRates, lowBitRates, noRates, ofLayer, mpegRates, lowRates, mpegHead, mpegJudged, mpegFields, mpegRead, mpegShape, mpegKbps, mpegRate, mpegChannels}
+use borrow.Author.Tests.{lt-ltb, le-ltb, eqb-false}
+use Rattle.heads.specs.Bits.{Bytes, number, fits}
+use Rattle.heads.specs.Judge.{refuseIf, verdictOf}
+use Rattle.heads.proofs.Pack.{field-fits, unpack-fits}
+use Rattle.heads.proofs.Grounds.{either-is, passed}
+use Rattle.heads.specs.Mpeg.{mpegWidths, mpegListed, bitRates, lowBitRates, noRates, ofLayer, mpegRates, lowRates, mpegHead, mpegJudged, mpegFacts, mpegFields, mpegKbps, mpegRate, InTables}
 use Rattle.heads.specs.declared.fields.MpegFields.{MpegFields}
 use Rattle.heads.specs.declared.mpeg.MpegShape.{MpegShape}
+use Rattle.heads.specs.declared.info.AudioFrameInfo.{AudioFrameInfo}
 use Rattle.heads.specs.declared.info.AudioFrameKind.{AudioFrameKind}
 use Rattle.heads.specs.declared.info.Head.{Head}
-use Rattle.heads.specs.declared.info.Head.the-variants.{Refused}
+use Rattle.heads.specs.declared.info.Head.the-variants.{Read, Refused}
 use Rattle.heads.specs.declared.info.Refusal.the-variants.{ShortHead}
+use Rattle.heads.specs.declared.info.Verdict.{Verdict}
+use Rattle.heads.specs.declared.info.Verdict.the-variants.{Accepted}
 
 pub short : (b : List ℕ) → length b < 4 → Refused ShortHead ≡ mpegHead b
 unfolding mpegHead refuseIf
@@ -116,14 +120,48 @@ module _ (b : List ℕ) (byte : Bytes b) where
     emphasis = sym emphasis-is i;
   }
 
-  -- a head that is long enough is what its bytes say
-  pub judged : (x : Head) → 4 ≤ length b → x ≡ mpegJudged (mpegByBytes b) → x ≡ mpegHead b
-  judged x p j = j ∙ ap mpegJudged fields-are ∙ sym (by-fields b p)
+-- which fit their widths
+pub fields-fit : (f : MpegFields) (b : List ℕ) → f ≡ mpegFields b → fits mpegWidths (mpegListed f) ≡ true
+fields-fit f b e = rw e (unpack-fits mpegWidths (number 4 b))
 
--- the fields that are judged fit their widths
-pub in-widths : (f : MpegFields) (b : List ℕ) → f ≡ mpegFields b
-    → (f .id < 2) × (f .layer < 4) × (f .«bitrate_index» < 16) × (f .«sampling_frequency» < 4)
-in-widths f b e = rw e (omega arith, omega arith, omega arith, omega arith)
+-- the answer of a head whose four bytes are there, from the judgement of its fields
+pub judged : (b : List ℕ) (f : MpegFields) (x : Head) → 4 ≤ length b → f ≡ mpegFields b → x ≡ mpegJudged f
+    → x ≡ mpegHead b
+judged b f x l e j = j ∙ ap mpegJudged e ∙ sym (by-fields b l)
+
+-- the fields of an accepted head: what they say is the judgement, and they stand in the tables
+module _ (f : MpegFields) (v : Verdict) (is : v ≡ verdictOf (mpegJudged f)) (yes : v ≡ Accepted) where
+  -- no ground holds: the sync word is there, and neither layer, bit rate index nor sampling frequency is turned down
+  grounds-passed : (not (eqb (f .syncword) 0xFFF) ≡ false) × (eqb (f .layer) 0 ≡ false)
+      × (eqb (f .«bitrate_index») 0 ≡ false) × (eqb (f .«bitrate_index») 15 ≡ false)
+      × (eqb (f .«sampling_frequency») 3 ≡ false)
+  unfolding mpegJudged
+  grounds-passed =
+      let sync = passed _ _ _ (sym yes ∙ is) in
+      let layer = passed _ _ _ (sync .1) in
+      let free = passed _ _ _ (layer .1) in
+      let forbidden = passed _ _ _ (free .1) in
+      let reserved = passed _ _ _ (forbidden .1) in
+      (sync .0, layer .0, free .0, forbidden .0, reserved .0)
+
+  pub accepted-says : (i : AudioFrameInfo) → i ≡ mpegFacts f → Read i ≡ mpegJudged f
+  unfolding mpegJudged refuseIf
+  accepted-says i e =
+      let (sync, layer, free, forbidden, reserved) = grounds-passed in rw (sync, layer, free, forbidden, reserved, e)
+
+  pub accepted-in : fits mpegWidths (mpegListed f) ≡ true → InTables f
+  accepted-in fit =
+      let (sync, layer, free, forbidden, reserved) = grounds-passed in
+      let below = field-fits mpegWidths (mpegListed f) fit in
+      let index : f .«bitrate_index» < 16 = below 4 in
+      let frequency : f .«sampling_frequency» < 4 = below 5 in (
+        below 1,
+        omega (arith, eqb-false (f .layer) 0 layer),
+        below 2,
+        omega (arith, eqb-false (f .«bitrate_index») 0 free),
+        omega (arith, eqb-false (f .«bitrate_index») 15 forbidden),
+        omega (arith, eqb-false (f .«sampling_frequency») 3 reserved),
+      )
 
 -- a shape's length, from the count of its slots: of four bytes, or of one
 pub fours : (k : AudioFrameKind) (s m n p : ℕ) → m ≡ n
@@ -141,15 +179,6 @@ pub ones : (k : AudioFrameKind) (s m n p : ℕ) → m ≡ n
       kind = k;
     }) (record { «frame_len» = n * 1 + p * 1; samples = s; kind = k })
 ones k s m n p e = rw (e, mul-one n, mul-one p)
-
--- what is reported, from what each part was found to be
-pub reported : (id layer index sf padding mode : ℕ) (shape : MpegShape) (kbps rate channels : ℕ)
-    → kbps ≡ mpegKbps id layer index → rate ≡ mpegRate id sf → shape ≡ mpegShape id layer rate (kbps * 1000) padding
-    → channels ≡ mpegChannels mode
-    → mpegRead shape kbps rate channels ≡ mpegRead
-    (mpegShape id layer (mpegRate id sf) (mpegKbps id layer index * 1000) padding) (mpegKbps id layer index)
-    (mpegRate id sf) (mpegChannels mode)
-reported id layer index sf padding mode shape kbps rate channels k r s c = rw (s, c, k, r)
 
 -- past the end of the tables there is no rate
 pub past-index : (ID layer k : ℕ) → 15 < k → 0 ≡ mpegKbps ID layer k

@@ -2,13 +2,13 @@
 use mathlib.Core.Path.{_≡_, refl, sym, _∙_, ap, ap₂}
 use mathlib.Core.Bool.{Bool, true, false, _&&_}
 use mathlib.Core.List.{List, [], _∷_, _++_}
-use Prim.Native.Nat.{ℕ, suc, _+_, _*_, _/_, _%_, _^_, _<_}
+use Prim.Native.Nat.{ℕ, zero, suc, _+_, _*_, _/_, _%_, _^_, _<_}
 use native.Mathlib.Nat.{add-assoc, add-comm, zero-add, add-mul, mul-assoc, mod-eq-of-lt, mod-one, mod-lt, div-one}
 use native.Mathlib.Omega.{arith}
 use borrow.Author.Tests.{lt-ltb, ltb-true}
 use lib.Arith.{digits-lt}
 use lib.Dec.{ltb}
-use lib.ListN.{length}
+use lib.ListN.{length, getD}
 use lib.Pow.{pow-add, pow-pos, high, low, field, mod-mod-pow, mod-pow-add, shr-shr, shr-lt}
 use Rattle.heads.specs.Bits.{total, unpack, pack, fits}
 
@@ -44,6 +44,15 @@ module _ (w f : ℕ) (ws fs : List ℕ) where
   pub all-fit : f < 2 ^ w → fits ws fs ≡ true → fits (w ∷ ws) (f ∷ fs) ≡ true
   unfolding fits
   all-fit h t = rw (lt-ltb f (2 ^ w) h) t
+
+-- each field is below its bound; past the end 0 is
+pub field-fits : (ws fs : List ℕ) → fits ws fs ≡ true → (k : ℕ) → getD fs k 0 < 2 ^ getD ws k 0
+unfolding fits
+field-fits [] [] h k = pow-pos 0
+field-fits [] (f ∷ fs) h k = absurd (not-fit h)
+field-fits (w ∷ ws) [] h k = absurd (not-fit h)
+field-fits (w ∷ ws) (f ∷ fs) h zero = first-fits w f ws fs h
+field-fits (w ∷ ws) (f ∷ fs) h (suc k) = field-fits ws fs (others-fit w f ws fs h) k
 
 pub pack-lt : (ws fs : List ℕ) → fits ws fs ≡ true → pack ws fs < 2 ^ total ws
 unfolding pack fits

@@ -11,6 +11,7 @@ use Rattle.heads.specs.declared.adts.AdtsHead.{AdtsHead}
 use Rattle.heads.specs.declared.info.Head.{Head}
 use Rattle.heads.specs.declared.info.Head.the-variants.{Read, Refused}
 use Rattle.heads.specs.declared.info.Refusal.the-variants.{ShortHead, NoSyncWord, Unsupported, ReservedCode, FrameLength}
+use Rattle.heads.specs.declared.info.AudioFrameInfo.{AudioFrameInfo}
 use Rattle.heads.specs.declared.info.AudioFrameKind.the-variants.{AacAdts}
 use Rattle.heads.specs.declared.info.BitRate.the-variants.{Absent}
 
@@ -93,22 +94,26 @@ adtsHeaderLength protection-absent further-blocks = cond (eqb protection-absent 
 abbrev pub adtsHeaderOf : AdtsFields → ℕ
 adtsHeaderOf f = adtsHeaderLength (f .«protection_absent») (f .«number_of_raw_data_blocks_in_frame»)
 
--- what the fields say, by a table of rates: 2, 3, 4, 6; 1024 samples for each raw block
-unfoldable pub adtsJudged : List ℕ → AdtsFields → Head
-adtsJudged rates f =
-    refuseIf (not (eqb (f .syncword) 0xFFF)) NoSyncWord
-    (refuseIf (not (eqb (f .layer) 0)) Unsupported
-    (refuseIf (leb (length rates) (f .«sampling_frequency_index»)) ReservedCode
-    (refuseIf (ltb (f .«frame_length») (adtsHeaderOf f)) FrameLength
-    (Read
-    (record {
+-- what the fields of an accepted head say, by a table of rates; 1024 samples for each raw block
+abbrev pub adtsFacts : List ℕ → AdtsFields → AudioFrameInfo
+adtsFacts rates f =
+    record {
       kind = AacAdts;
       «frame_len» = f .«frame_length»;
       «samples_per_frame» = 1024 * (f .«number_of_raw_data_blocks_in_frame» + 1);
       «sample_rate» = getD rates (f .«sampling_frequency_index») 0;
       channels = getD adtsChannels (f .«channel_configuration») 0;
       «bit_rate» = Absent;
-    })))))
+    }
+
+-- what the fields say: 2, 3, 4, 6
+unfoldable pub adtsJudged : List ℕ → AdtsFields → Head
+adtsJudged rates f =
+    refuseIf (not (eqb (f .syncword) 0xFFF)) NoSyncWord
+    (refuseIf (not (eqb (f .layer) 0)) Unsupported
+    (refuseIf (leb (length rates) (f .«sampling_frequency_index»)) ReservedCode
+    (refuseIf (ltb (f .«frame_length») (adtsHeaderOf f)) FrameLength
+    (Read (adtsFacts rates f)))))
 
 -- 1 before all of them
 unfoldable pub adtsHead : List ℕ → Head
@@ -118,6 +123,9 @@ adtsHead b = refuseIf (ltb (length b) 7) ShortHead (adtsJudged adtsRates (adtsFi
 abbrev pub withHeader : Head → ℕ → AdtsHead
 withHeader (Read i) n = AdtsHead.Read i n
 withHeader (Refused ground) n = AdtsHead.Refused ground
+
+abbrev pub adtsReported : AdtsFields → AdtsHead
+adtsReported f = withHeader (adtsJudged adtsRates f) (adtsHeaderOf f)
 
 unfoldable pub adtsReport : List ℕ → AdtsHead
 adtsReport b = withHeader (adtsHead b) (adtsHeaderOf (adtsFields b))

@@ -1,9 +1,8 @@
 -- The wall chart of lengths: document 02's second request. The lengths of MPEG audio frames without padding, by ID,
 -- layer, bit rate index and rate index.
-use Prim.Native.Nat.{ℕ, _*_, _<_}
+use Prim.Native.Nat.{ℕ, _*_}
 use mathlib.Core.List.{List, [], _∷_, _++_}
 use Rattle.heads.specs.Mpeg.{mpegKbps, mpegRate, mpegShape}
-use Rattle.heads.specs.declared.fields.MpegFields.{MpegFields}
 
 -- floor(12 × bit rate / rate) × 4 in Layer I, floor(144 × bit rate / rate) in Layers II and III, and with 72 in Layer
 -- III of ID 0: the shape of a frame whose padding_bit is 0
@@ -28,12 +27,6 @@ indices = 1 ∷ 2 ∷ 3 ∷ 4 ∷ 5 ∷ 6 ∷ 7 ∷ 8 ∷ 9 ∷ 10 ∷ 11 ∷ 12
 
 abbrev pub rates : List ℕ
 rates = 0 ∷ 1 ∷ 2 ∷ []
-
--- the fields of a head that has its length there
-abbrev pub Charted : MpegFields → Type 0
-Charted f =
-    (f .id < 2) × (0 < f .layer) × (f .layer < 4) × (0 < f .«bitrate_index») × (f .«bitrate_index» < 15)
-    × (f .«sampling_frequency» < 3)
 
 -- 'ID 0 before 1, Layer I to III, bit rate index rising, rate index rising fastest': three lengths for each index,
 -- fourteen times three for each layer, and three layers for each ID

@@ -1,5 +1,5 @@
 -- The MPEG audio head: header() of ISO/IEC 11172-3 §2.4.1.3, with 13818-3's lower sampling frequencies where ID is 0.
-use Prim.Native.Nat.{ℕ, _+_, _*_, _/_}
+use Prim.Native.Nat.{ℕ, _+_, _*_, _/_, _<_}
 use mathlib.Core.List.{List, [], _∷_}
 use mathlib.Core.Bool.{not, cond}
 use lib.ListN.{length, getD}
@@ -11,6 +11,7 @@ use Rattle.heads.specs.declared.mpeg.MpegShape.{MpegShape}
 use Rattle.heads.specs.declared.info.Head.{Head}
 use Rattle.heads.specs.declared.info.Head.the-variants.{Read}
 use Rattle.heads.specs.declared.info.Refusal.the-variants.{ShortHead, NoSyncWord, Unsupported, ReservedCode, BitRateIndex}
+use Rattle.heads.specs.declared.info.AudioFrameInfo.{AudioFrameInfo}
 use Rattle.heads.specs.declared.info.AudioFrameKind.{AudioFrameKind}
 use Rattle.heads.specs.declared.info.AudioFrameKind.the-variants.{MpegLayer1, MpegLayer2, MpegLayer3}
 use Rattle.heads.specs.declared.info.BitRate.the-variants.{Coded}
@@ -190,17 +191,17 @@ mpegShape ID layer rate bits padding =
 unfoldable pub mpegChannels : ℕ → ℕ
 mpegChannels mode = cond (eqb mode 3) 1 2
 
-abbrev pub mpegRead : MpegShape → ℕ → ℕ → ℕ → Head
-mpegRead shape kbps rate channels =
-    Read
-    (record {
+-- what is said of a frame of that shape, bit rate, rate and mode
+abbrev pub mpegInfo : MpegShape → ℕ → ℕ → ℕ → AudioFrameInfo
+mpegInfo shape bits rate mode =
+    record {
       kind = shape .kind;
       «frame_len» = shape .«frame_len»;
       «samples_per_frame» = shape .samples;
       «sample_rate» = rate;
-      channels = channels;
-      «bit_rate» = Coded (kbps * 1000);
-    })
+      channels = mpegChannels mode;
+      «bit_rate» = Coded bits;
+    }
 
 -- what the fields of an accepted head say
 abbrev pub kbpsOf : MpegFields → ℕ
@@ -212,8 +213,8 @@ rateOf f = mpegRate (f .id) (f .«sampling_frequency»)
 abbrev pub shapeOf : MpegFields → MpegShape
 shapeOf f = mpegShape (f .id) (f .layer) (rateOf f) (kbpsOf f * 1000) (f .«padding_bit»)
 
-abbrev pub mpegFacts : MpegFields → Head
-mpegFacts f = mpegRead (shapeOf f) (kbpsOf f) (rateOf f) (mpegChannels (f .mode))
+abbrev pub mpegFacts : MpegFields → AudioFrameInfo
+mpegFacts f = mpegInfo (shapeOf f) (kbpsOf f * 1000) (rateOf f) (f .mode)
 
 -- what the fields say: 2, 3, 5, 4
 unfoldable pub mpegJudged : MpegFields → Head
@@ -223,8 +224,14 @@ mpegJudged f =
     (refuseIf (eqb (f .«bitrate_index») 0) BitRateIndex
     (refuseIf (eqb (f .«bitrate_index») 15) BitRateIndex
     (refuseIf (eqb (f .«sampling_frequency») 3) ReservedCode
-    (mpegFacts f)))))
+    (Read (mpegFacts f))))))
 
 -- 1 before all of them
 unfoldable pub mpegHead : List ℕ → Head
 mpegHead b = refuseIf (ltb (length b) 4) ShortHead (mpegJudged (mpegFields b))
+
+-- the fields of a head that is accepted stand in the tables of bit rates and rates, and so in the chart of lengths
+abbrev pub InTables : MpegFields → Type 0
+InTables f =
+    (f .id < 2) × (0 < f .layer) × (f .layer < 4) × (0 < f .«bitrate_index») × (f .«bitrate_index» < 15)
+    × (f .«sampling_frequency» < 3)

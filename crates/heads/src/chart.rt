@@ -1,20 +1,22 @@
 // The wall chart of lengths, and a second reader of MPEG audio heads that takes its lengths from it.
 ghost use mathlib.Core.Path.{_≡_};
-ghost use Prim.Native.Nat.{_<_};
+ghost use mathlib.Core.Bool.{true};
+ghost use Rattle.heads.specs.Bits.{fits};
 ghost use Rattle.heads.specs.Numbers.{headAnswer};
-ghost use Rattle.heads.specs.Mpeg.{mpegFacts, mpegHead, mpegJudged, mpegKbps, mpegRate, shapeOf};
-ghost use Rattle.heads.specs.Chart.{Charted, chart, unpadded};
+ghost use Rattle.heads.specs.Mpeg.{mpegWidths, mpegListed, InTables, mpegFacts, mpegHead, mpegJudged, mpegKbps, mpegRate, shapeOf};
+ghost use Rattle.heads.specs.Chart.{chart, unpadded};
 use crate::fields::MpegFields;
 use crate::info::AudioFrameInfo;
 use crate::info::AudioFrameKind;
-use crate::info::BitRate;
 use crate::info::Head;
 use crate::info::Refusal;
+use crate::info::Verdict;
 use crate::mpeg::MpegShape;
-use crate::mpeg::mpeg_channels;
 use crate::mpeg::mpeg_fields;
+use crate::mpeg::mpeg_info;
 use crate::mpeg::mpeg_kbps;
 use crate::mpeg::mpeg_sample_rate;
+use crate::mpeg::mpeg_verdict;
 
 // The length of a frame without padding, in bytes, for each ID, layer, bitrate_index and sampling_frequency. A
 // bitrate_index stands behind the first of its three lengths, which are for sampling_frequency 0, 1 and 2.
@@ -317,53 +319,31 @@ pub fn parse_mpeg_audio_header_by_chart(b: &[u8]) -> Head
     judge_by_chart(mpeg_fields(b))
 }
 
-// What the fields say.
+// What the fields say, each of which fits its width: the grounds are those of `judge_mpeg`, and the length is the
+// chart's.
 fn judge_by_chart(f: MpegFields) -> Head
-    requires { ⌜ (f .id < 2) × (f .layer < 4) × (f .«bitrate_index» < 16) × (f .«sampling_frequency» < 4) ⌝ }
+    requires { ⌜ fits mpegWidths (mpegListed f) ≡ true ⌝ }
     ensures { λ r. ⌜ r ≡ mpegJudged f ⌝ }
 {
-    if f.syncword != 0xFFF {
-        return Head::Refused(Refusal::NoSyncWord);
+    match mpeg_verdict(f) {
+        Verdict::Accepted => Head::Read(facts_by_chart(f)),
+        Verdict::Refused(refusal) => Head::Refused(refusal),
     }
-    let layer = f.layer;
-    match layer {
-        0 => return Head::Refused(Refusal::Unsupported),
-        _ => {}
-    }
-    if f.bitrate_index == 0 {
-        return Head::Refused(Refusal::BitRateIndex); // free format
-    }
-    if f.bitrate_index == 15 {
-        return Head::Refused(Refusal::BitRateIndex); // forbidden
-    }
-    if f.sampling_frequency == 3 {
-        return Head::Refused(Refusal::ReservedCode);
-    }
-    Head::Read(facts_by_chart(f))
 }
 
 // What the fields of an accepted head say.
 fn facts_by_chart(f: MpegFields) -> AudioFrameInfo
-    requires { ⌜ Charted f ⌝ }
-    ensures { λ r. ⌜ Head.Read r ≡ mpegFacts f ⌝ }
+    requires { ⌜ InTables f ⌝ }
+    ensures { λ r. ⌜ r ≡ mpegFacts f ⌝ }
 {
     let bitrate = mpeg_kbps(f.id, f.layer, f.bitrate_index as usize) as u32 * 1000;
     let sample_rate = mpeg_sample_rate(f.id, f.sampling_frequency as usize);
-    let shape = chart_shape(f);
-    let kind = shape.kind;
-    AudioFrameInfo {
-        kind,
-        frame_len: shape.frame_len,
-        samples_per_frame: shape.samples,
-        sample_rate,
-        channels: mpeg_channels(f.mode),
-        bit_rate: BitRate::Coded(bitrate),
-    }
+    mpeg_info(chart_shape(f), bitrate, sample_rate, f.mode)
 }
 
 // What a frame's layer decides. Padding is one slot more: four bytes in Layer I, one in the others.
 fn chart_shape(f: MpegFields) -> MpegShape
-    requires { ⌜ Charted f ⌝ }
+    requires { ⌜ InTables f ⌝ }
     ensures { λ r. ⌜ r ≡ shapeOf f ⌝ }
 {
     let unpadded = chart_len(f) as usize;
@@ -390,7 +370,7 @@ fn chart_shape(f: MpegFields) -> MpegShape
 
 // A length by the chart. Layers I, II and III have the codes 3, 2 and 1.
 fn chart_len(f: MpegFields) -> u16
-    requires { ⌜ Charted f ⌝ }
+    requires { ⌜ InTables f ⌝ }
     ensures { λ r. ⌜ r ≡ unpadded (f .id) (f .layer) (f .«bitrate_index») (f .«sampling_frequency») ⌝ }
 {
     let chart = mpeg_chart();

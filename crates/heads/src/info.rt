@@ -60,6 +60,12 @@ pub enum Head {
     Refused(Refusal),
 }
 
+// Whether a head's fields are accepted, or the first ground on which they are not. What they say is another matter.
+pub enum Verdict {
+    Accepted,
+    Refused(Refusal),
+}
+
 impl AudioFrameKind {
     pub fn number(self) -> u32
         ensures { λ r. ⌜ r ≡ kindNumber self ⌝ }

@@ -1,15 +1,19 @@
 // MPEG audio, ISO/IEC 11172-3 and, with ID 0, the lower sampling frequencies of 13818-3.
 ghost use mathlib.Core.Path.{_≡_};
+ghost use mathlib.Core.Bool.{true};
 ghost use Prim.Native.Nat.{_≤_, _<_, _*_, _/_};
-ghost use lib.ListN.{length};
+ghost use lib.ListN.{length, getD};
+ghost use Rattle.heads.specs.Bits.{fits};
 ghost use Rattle.heads.specs.Numbers.{headAnswer};
-ghost use Rattle.heads.specs.Mpeg.{mpegFields, mpegHead, mpegKbps, mpegRate, mpegShape, layer3Shape, mpegChannels};
+ghost use Rattle.heads.specs.Judge.{verdictOf};
+ghost use Rattle.heads.specs.Mpeg.{mpegWidths, mpegListed, mpegFields, InTables, mpegInfo, mpegFacts, mpegJudged, mpegHead, mpegKbps, mpegRate, mpegShape, layer3Shape, mpegChannels};
 use crate::fields::MpegFields;
 use crate::info::AudioFrameInfo;
 use crate::info::AudioFrameKind;
 use crate::info::BitRate;
 use crate::info::Head;
 use crate::info::Refusal;
+use crate::info::Verdict;
 
 // 11172-3 §2.4.2.3, bit rate in kbit/s for ID 1 by layer (I, II, III) and bitrate_index. 0 is free format, 15
 // forbidden.
@@ -123,8 +127,8 @@ pub struct MpegShape {
     pub kind: AudioFrameKind,
 }
 
-// An MPEG audio head, header() of 11172-3 §2.4.1.3. Free format is refused, since such a head does not say the frame's
-// length.
+// An MPEG audio head, header() of 11172-3 §2.4.1.3: too few bytes, or what its fields say. No other function of this
+// reader takes a byte than `mpeg_fields`.
 pub fn parse_mpeg_audio_header(b: &[u8]) -> Head
     ensures { λ r. ⌜ r ≡ mpegHead (now (b .entry)) ⌝ }
     ensures { λ r. ⌜ headAnswer r ≡ headAnswer (mpegHead (now (b .entry))) ⌝ }
@@ -132,48 +136,18 @@ pub fn parse_mpeg_audio_header(b: &[u8]) -> Head
     if b.len() < 4 {
         return Head::Refused(Refusal::ShortHead);
     }
-    if b[0] != 0xFF {
-        return Head::Refused(Refusal::NoSyncWord);
-    }
-    if b[1] < 0xF0 {
-        return Head::Refused(Refusal::NoSyncWord);
-    }
-    let id = (b[1] >> 3) % 2;
-    let layer_code = (b[1] >> 1) % 4;
-    let bitrate_index = (b[2] >> 4) as usize;
-    let sf_index = ((b[2] >> 2) % 4) as usize;
-    let padding = ((b[2] >> 1) % 2) as usize;
-    let mode = b[3] >> 6;
-    match layer_code {
-        0 => return Head::Refused(Refusal::Unsupported),
-        _ => {}
-    }
-    if bitrate_index == 0 {
-        return Head::Refused(Refusal::BitRateIndex); // free format
-    }
-    if bitrate_index == 15 {
-        return Head::Refused(Refusal::BitRateIndex); // forbidden
-    }
-    if sf_index == 3 {
-        return Head::Refused(Refusal::ReservedCode);
-    }
-    let bitrate = mpeg_kbps(id, layer_code, bitrate_index) as u32 * 1000;
-    let sample_rate = mpeg_sample_rate(id, sf_index);
-    let shape = mpeg_shape(id, layer_code, sample_rate, bitrate, padding);
-    let kind = shape.kind;
-    Head::Read(AudioFrameInfo {
-        kind,
-        frame_len: shape.frame_len,
-        samples_per_frame: shape.samples,
-        sample_rate,
-        channels: mpeg_channels(mode),
-        bit_rate: BitRate::Coded(bitrate),
-    })
+    judge_mpeg(mpeg_fields(b))
 }
 
-// Every field of a head, in the order of the table. The bits of the four bytes, a letter for each field's name: p is
-// protection_bit, then padding_bit and private_bit; f is sampling_frequency, x mode_extension.
-//   ssssssss  ssssillp  bbbbffpp  mmxxcoee
+// Every field of header(), in the order of the table. The bits of the four bytes, the first byte's first:
+//
+//     ssssssss  ssssillp  bbbbffgv  mmxxcoee
+//
+//     s syncword          b bitrate_index         m mode
+//     i ID                f sampling_frequency    x mode_extension
+//     l layer             g padding_bit           c copyright
+//     p protection_bit    v private_bit           o original/home
+//                                                 e emphasis
 pub fn mpeg_fields(b: &[u8]) -> MpegFields
     requires { ⌜ 4 ≤ length (now b) ⌝ }
     ensures { λ r. ⌜ r ≡ mpegFields (now (b .entry)) ⌝ }
@@ -199,34 +173,104 @@ pub fn mpeg_fields(b: &[u8]) -> MpegFields
     }
 }
 
+// What the fields say, each of which fits its width.
+pub fn judge_mpeg(f: MpegFields) -> Head
+    requires { ⌜ fits mpegWidths (mpegListed f) ≡ true ⌝ }
+    ensures { λ r. ⌜ r ≡ mpegJudged f ⌝ }
+{
+    match mpeg_verdict(f) {
+        Verdict::Accepted => Head::Read(mpeg_facts(f)),
+        Verdict::Refused(refusal) => Head::Refused(refusal),
+    }
+}
+
+// The grounds of a refusal in document 01's order: 2, 3, 5, 4. Free format is refused, since such a head does not say
+// the frame's length.
+pub fn mpeg_verdict(f: MpegFields) -> Verdict
+    ensures { λ r. ⌜ r ≡ verdictOf (mpegJudged f) ⌝ }
+{
+    if f.syncword != 0xFFF {
+        return Verdict::Refused(Refusal::NoSyncWord);
+    }
+    let layer = f.layer;
+    match layer {
+        0 => return Verdict::Refused(Refusal::Unsupported),
+        _ => {}
+    }
+    if f.bitrate_index == 0 {
+        return Verdict::Refused(Refusal::BitRateIndex); // free format
+    }
+    if f.bitrate_index == 15 {
+        return Verdict::Refused(Refusal::BitRateIndex); // forbidden
+    }
+    if f.sampling_frequency == 3 {
+        return Verdict::Refused(Refusal::ReservedCode);
+    }
+    Verdict::Accepted
+}
+
+// What the fields of an accepted head say.
+fn mpeg_facts(f: MpegFields) -> AudioFrameInfo
+    requires { ⌜ InTables f ⌝ }
+    ensures { λ r. ⌜ r ≡ mpegFacts f ⌝ }
+{
+    let bitrate = mpeg_kbps(f.id, f.layer, f.bitrate_index as usize) as u32 * 1000;
+    let sample_rate = mpeg_sample_rate(f.id, f.sampling_frequency as usize);
+    let shape = mpeg_shape(f.id, f.layer, sample_rate, bitrate, f.padding_bit as usize);
+    mpeg_info(shape, bitrate, sample_rate, f.mode)
+}
+
+// The same of a frame whose shape and rates are known.
+pub fn mpeg_info(shape: MpegShape, bitrate: u32, sample_rate: u32, mode: u8) -> AudioFrameInfo
+    ensures { λ r. ⌜ r ≡ mpegInfo shape bitrate «sample_rate» mode ⌝ }
+{
+    let kind = shape.kind;
+    AudioFrameInfo {
+        kind,
+        frame_len: shape.frame_len,
+        samples_per_frame: shape.samples,
+        sample_rate,
+        channels: mpeg_channels(mode),
+        bit_rate: BitRate::Coded(bitrate),
+    }
+}
+
 // The bit rate in kbit/s.
-pub fn mpeg_kbps(id: u8, layer_code: u8, bitrate_index: usize) -> u16
+pub fn mpeg_kbps(id: u8, layer: u8, bitrate_index: usize) -> u16
     requires { ⌜ «bitrate_index» < 16 ⌝ }
-    ensures { λ r. ⌜ (r ≡ mpegKbps id «layer_code» «bitrate_index») × (r ≤ 448) ⌝ }
+    ensures { λ r. ⌜ (r ≡ mpegKbps id layer «bitrate_index») × (r ≤ 448) ⌝ }
 {
     if id == 1 {
-        match layer_code {
-            3 => MPEG1_BITRATE_KBPS[0][bitrate_index],
-            2 => MPEG1_BITRATE_KBPS[1][bitrate_index],
-            _ => MPEG1_BITRATE_KBPS[2][bitrate_index],
+        match layer {
+            3 => entry(MPEG1_BITRATE_KBPS[0], bitrate_index),
+            2 => entry(MPEG1_BITRATE_KBPS[1], bitrate_index),
+            _ => entry(MPEG1_BITRATE_KBPS[2], bitrate_index),
         }
     } else {
-        match layer_code {
-            3 => MPEG2_BITRATE_KBPS[0][bitrate_index],
-            _ => MPEG2_BITRATE_KBPS[1][bitrate_index],
+        match layer {
+            3 => entry(MPEG2_BITRATE_KBPS[0], bitrate_index),
+            _ => entry(MPEG2_BITRATE_KBPS[1], bitrate_index),
         }
     }
 }
 
+// An entry of a column of bit rates, which is handed over by value for the reason that ac3.rt's `entry` gives.
+fn entry(column: [u16; 16], bitrate_index: usize) -> u16
+    requires { ⌜ «bitrate_index» < 16 ⌝ }
+    ensures { λ r. ⌜ r ≡ getD column «bitrate_index» 0 ⌝ }
+{
+    column[bitrate_index]
+}
+
 // The sampling frequency in Hz.
-pub fn mpeg_sample_rate(id: u8, sf_index: usize) -> u32
-    requires { ⌜ «sf_index» < 3 ⌝ }
-    ensures { λ r. ⌜ (r ≡ mpegRate id «sf_index») × (0 < r) ⌝ }
+pub fn mpeg_sample_rate(id: u8, sampling_frequency: usize) -> u32
+    requires { ⌜ «sampling_frequency» < 3 ⌝ }
+    ensures { λ r. ⌜ (r ≡ mpegRate id «sampling_frequency») × (0 < r) ⌝ }
 {
     if id == 1 {
-        MPEG1_SAMPLE_RATE[sf_index]
+        MPEG1_SAMPLE_RATE[sampling_frequency]
     } else {
-        MPEG2_SAMPLE_RATE[sf_index]
+        MPEG2_SAMPLE_RATE[sampling_frequency]
     }
 }
 
@@ -237,11 +281,11 @@ pub fn mpeg_channels(mode: u8) -> u16
 }
 
 // Layer I counts in slots of four bytes; Layer III has half the samples at the lower sampling frequencies.
-fn mpeg_shape(id: u8, layer_code: u8, sample_rate: u32, bitrate: u32, padding: usize) -> MpegShape
-    requires { ⌜ (0 < «sample_rate») × (bitrate ≤ 448000) × (padding < 2) ⌝ }
-    ensures { λ r. ⌜ r ≡ mpegShape id «layer_code» «sample_rate» bitrate padding ⌝ }
+fn mpeg_shape(id: u8, layer: u8, sample_rate: u32, bitrate: u32, padding: usize) -> MpegShape
+    requires { ⌜ (0 < «sample_rate») × (bitrate ≤ 448000) × (padding < 256) ⌝ }
+    ensures { λ r. ⌜ r ≡ mpegShape id layer «sample_rate» bitrate padding ⌝ }
 {
-    match layer_code {
+    match layer {
         3 => {
             let frame_len = slots(12, bitrate, sample_rate) * 4 + padding * 4;
             MpegShape {
@@ -263,7 +307,7 @@ fn mpeg_shape(id: u8, layer_code: u8, sample_rate: u32, bitrate: u32, padding: u
 }
 
 fn layer3_shape(id: u8, sample_rate: u32, bitrate: u32, padding: usize) -> MpegShape
-    requires { ⌜ (0 < «sample_rate») × (bitrate ≤ 448000) × (padding < 2) ⌝ }
+    requires { ⌜ (0 < «sample_rate») × (bitrate ≤ 448000) × (padding < 256) ⌝ }
     ensures { λ r. ⌜ r ≡ layer3Shape id «sample_rate» bitrate padding ⌝ }
 {
     if id == 1 {

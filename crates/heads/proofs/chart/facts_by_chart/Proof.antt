@@ -24,20 +24,11 @@ mpeg-sample-rate-requires c κs = search needs
 chart-shape-requires : tie.Need-chart-shape-requires
 chart-shape-requires c κs = search needs
 
-mpeg-channels-requires : tie.Need-mpeg-channels-requires
-mpeg-channels-requires c κs = search needs
+mpeg-info-requires : tie.Need-mpeg-info-requires
+mpeg-info-requires c κs = search needs
 
 returns : tie.Need-returns
-returns c =
-    let shaped = c .before in
-    let rated = shaped .before in
-    let coded = rated .before .before in
-    rw (
-      shaped .chart-shape .ensures,
-      coded .mpeg-kbps .ensures .0,
-      rated .mpeg-sample-rate .ensures .0,
-      c .mpeg-channels .ensures,
-    )
+returns c = cc
 
 pub facts-by-chart-spec : {M : Type 1} → statement M
 facts-by-chart-spec =
@@ -50,5 +41,5 @@ facts-by-chart-spec =
     cast-mpeg-sample-rate
     mpeg-sample-rate-requires
     chart-shape-requires
-    mpeg-channels-requires
+    mpeg-info-requires
     returns)

@@ -1,10 +1,6 @@
 -- Too few bytes, or the judgement of the fields. Assumes nothing.
-use mathlib.Core.Path.{sym, ap, _∙_}
-use native.Mathlib.Omega.{arith}
-use denote.Ref.{now}
 use Rattle.heads.proofs.Grounds.{answered}
-use Rattle.heads.proofs.MpegLaws.{short, by-fields, in-widths}
-use Rattle.heads.specs.Mpeg.{mpegJudged}
+use Rattle.heads.proofs.MpegLaws.{short, fields-fit, judged}
 use borrow.Author.Needs.{needs}
 use Rattle.heads.proofs.chart.parse_mpeg_audio_header_by_chart.Statement.{statement}
 use Rattle.heads.proofs.chart.parse_mpeg_audio_header_by_chart.Tie as tie
@@ -16,12 +12,10 @@ mpeg-fields-requires : tie.Need-mpeg-fields-requires
 mpeg-fields-requires c κs = search needs
 
 judge-by-chart-requires : tie.Need-judge-by-chart-requires
-judge-by-chart-requires c κs = in-widths (c .mpeg-fields .result) _ (c .mpeg-fields .ensures)
+judge-by-chart-requires c κs = search fields-fit
 
 returns-2 : tie.Need-returns-2
-returns-2 c =
-    let b = now (c .before .before .before .before .args .b) in
-    answered (c .judge-by-chart .ensures ∙ ap mpegJudged (c .before .mpeg-fields .ensures) ∙ sym (by-fields b (search needs)))
+returns-2 c = answered (search judged)
 
 pub parse-mpeg-audio-header-by-chart-spec : {M : Type 1} → statement M
 parse-mpeg-audio-header-by-chart-spec =
