@@ -8,10 +8,8 @@ use native.Mathlib.Numerals.{add-one}
 use native.Mathlib.Omega.{arith}
 use lib.ListN.{length, getD, take, List·getD-append}
 use lib.Seq.{getD-append-add, take-suc}
-use borrow.Author.Tests.{eq-eqb, ne-eqb}
 use Rattle.heads.proofs.Below.{agree}
-use Rattle.heads.specs.Mpeg.{Layer, layer1, layer2, layer3, lowLayer3, shaped, mpegKbps, mpegRate, mpegShape, layer3Shape}
-use Rattle.heads.specs.declared.mpeg.MpegShape.{MpegShape}
+use Rattle.heads.specs.Mpeg.{mpegKbps, mpegRate, mpegShape, layer3Shape}
 use Rattle.heads.specs.Chart.{unpadded, forEach, ids, layers, indices, rates, indexPart, layerPart, idPart, chart}
 
 -- of lists of n elements for each of some numbers, joined: element j of the list for number i
@@ -104,42 +102,3 @@ looked-up =
 pub chart-length : length chart ≡ 252
 unfolding chart
 chart-length = refl
-
--- a frame's shape by its unpadded length: padding is a slot more, of four bytes or of one
-abbrev shape : ℕ → Layer → MpegShape
-shape len l = record { «frame_len» = len; samples = l .samples; kind = l .kind }
-
-fours : (l : Layer) (rate bits padding len : ℕ) → l .slot ≡ 4 → len ≡ shaped l rate bits 0 .«frame_len»
-    → shape (len + padding * 4) l ≡ shaped l rate bits padding
-fours l rate bits padding len four e = ap (λ (n : ℕ). shape n l) (rw (e, four) (omega arith))
-
-ones : (l : Layer) (rate bits padding len : ℕ) → l .slot ≡ 1 → len ≡ shaped l rate bits 0 .«frame_len»
-    → shape (len + padding) l ≡ shaped l rate bits padding
-ones l rate bits padding len one e = ap (λ (n : ℕ). shape n l) (rw (e, one) (omega arith))
-
-module _ (ID layer rate bits padding len : ℕ) (is : len ≡ mpegShape ID layer rate bits 0 .«frame_len») where
-  pub in-layer1 : layer ≡ 3 → shape (len + padding * 4) layer1 ≡ mpegShape ID layer rate bits padding
-  unfolding mpegShape
-  in-layer1 e = let t = eq-eqb layer 3 e in rw t (fours layer1 rate bits padding len refl (rw t at is))
-
-  pub in-layer2 : layer ≡ 2 → shape (len + padding) layer2 ≡ mpegShape ID layer rate bits padding
-  unfolding mpegShape
-  in-layer2 e = rw e (ones layer2 rate bits padding len refl (rw e at is))
-
-  module _ (not1 : layer ≡ 3 → ⊥) (not2 : layer ≡ 2 → ⊥) where
-    pub in-layer3 : ID ≡ 1 → shape (len + padding) layer3 ≡ mpegShape ID layer rate bits padding
-    unfolding mpegShape layer3Shape
-    in-layer3 e =
-        let s = ne-eqb layer 3 not1 in
-        let t = ne-eqb layer 2 not2 in
-        rw (s, t, e) (ones layer3 rate bits padding len refl (rw (s, t, e) at is))
-
-    pub in-low-layer3 : (ID ≡ 1 → ⊥) → shape (len + padding) lowLayer3 ≡ mpegShape ID layer rate bits padding
-    unfolding mpegShape layer3Shape
-    in-low-layer3 d =
-        let s = ne-eqb layer 3 not1 in
-        let t = ne-eqb layer 2 not2 in
-        let u = ne-eqb ID 1 d in
-        rw (s, t, u) (ones lowLayer3 rate bits padding len refl (rw (s, t, u) at is))
-
-pub ruleset by-layer = (in-layer1, in-layer2, in-layer3, in-low-layer3)

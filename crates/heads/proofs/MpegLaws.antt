@@ -2,21 +2,19 @@
 use mathlib.Core.Path.{_≡_, refl, sym, ap, _∙_}
 use mathlib.Core.List.{List}
 use Prim.Native.Nat.{ℕ, _≤_, _<_, _+_, _*_, _/_, _%_}
-use native.Mathlib.Nat.{mul-one}
 use native.Mathlib.Omega.{arith}
 use mathlib.Core.Bool.{true, false, not, cond}
 use lib.Dec.{eqb}
 use lib.ListN.{length, getD, List·getD-eq-default}
-use borrow.Author.Tests.{lt-ltb, le-ltb, eqb-false}
+use borrow.Author.Tests.{lt-ltb, le-ltb, eq-eqb, ne-eqb, eqb-false}
 use Rattle.heads.specs.Bits.{Bytes, number, fits}
 use Rattle.heads.specs.Judge.{refuseIf, verdictOf}
 use Rattle.heads.proofs.Pack.{field-fits, unpack-fits}
 use Rattle.heads.proofs.Grounds.{either-is, passed}
-use Rattle.heads.specs.Mpeg.{mpegWidths, mpegListed, bitRates, lowBitRates, noRates, ofLayer, mpegRates, lowRates, mpegHead, mpegJudged, mpegFacts, mpegFields, mpegKbps, mpegRate, InTables}
+use Rattle.heads.specs.Mpeg.{mpegWidths, mpegListed, bitRates, lowBitRates, noRates, ofLayer, mpegRates, lowRates, mpegHead, mpegJudged, mpegFacts, mpegFields, mpegKbps, mpegRate, mpegShape, layer3Shape, Layer, layer1, layer2, layer3, lowLayer3, shaped, InTables}
 use Rattle.heads.specs.declared.fields.MpegFields.{MpegFields}
 use Rattle.heads.specs.declared.mpeg.MpegShape.{MpegShape}
 use Rattle.heads.specs.declared.info.AudioFrameInfo.{AudioFrameInfo}
-use Rattle.heads.specs.declared.info.AudioFrameKind.{AudioFrameKind}
 use Rattle.heads.specs.declared.info.Head.{Head}
 use Rattle.heads.specs.declared.info.Head.the-variants.{Read, Refused}
 use Rattle.heads.specs.declared.info.Refusal.the-variants.{ShortHead}
@@ -163,22 +161,65 @@ module _ (f : MpegFields) (v : Verdict) (is : v ≡ verdictOf (mpegJudged f)) (y
         omega (arith, eqb-false (f .«sampling_frequency») 3 reserved),
       )
 
--- a shape's length, from the count of its slots: of four bytes, or of one
-pub fours : (k : AudioFrameKind) (s m n p : ℕ) → m ≡ n
-    → _≡_ {A = MpegShape} (record {
-      «frame_len» = m * 4 + p * 4;
-      samples = s;
-      kind = k;
-    }) (record { «frame_len» = n * 4 + p * 4; samples = s; kind = k })
-fours k s m n p e = rw e
+-- a frame's shape by its unpadded length: padding is a slot more, of four bytes or of one
+abbrev shape : ℕ → Layer → MpegShape
+shape len l = record { «frame_len» = len; samples = l .samples; kind = l .kind }
 
-pub ones : (k : AudioFrameKind) (s m n p : ℕ) → m ≡ n
-    → _≡_ {A = MpegShape} (record {
-      «frame_len» = m + p;
-      samples = s;
-      kind = k;
-    }) (record { «frame_len» = n * 1 + p * 1; samples = s; kind = k })
-ones k s m n p e = rw (e, mul-one n, mul-one p)
+fours : (l : Layer) (rate bits padding len : ℕ) → l .slot ≡ 4 → len ≡ shaped l rate bits 0 .«frame_len»
+    → shape (len + padding * 4) l ≡ shaped l rate bits padding
+fours l rate bits padding len four e = ap (λ (n : ℕ). shape n l) (rw (e, four) (omega arith))
+
+ones : (l : Layer) (rate bits padding len : ℕ) → l .slot ≡ 1 → len ≡ shaped l rate bits 0 .«frame_len»
+    → shape (len + padding) l ≡ shaped l rate bits padding
+ones l rate bits padding len one e = ap (λ (n : ℕ). shape n l) (rw (e, one) (omega arith))
+
+module _ (ID layer rate bits padding len : ℕ) (is : len ≡ mpegShape ID layer rate bits 0 .«frame_len») where
+  pub in-layer1 : layer ≡ 3 → shape (len + padding * 4) layer1 ≡ mpegShape ID layer rate bits padding
+  unfolding mpegShape
+  in-layer1 e = let t = eq-eqb layer 3 e in rw t (fours layer1 rate bits padding len refl (rw t at is))
+
+  pub in-layer2 : layer ≡ 2 → shape (len + padding) layer2 ≡ mpegShape ID layer rate bits padding
+  unfolding mpegShape
+  in-layer2 e = rw e (ones layer2 rate bits padding len refl (rw e at is))
+
+  module _ (not1 : layer ≡ 3 → ⊥) (not2 : layer ≡ 2 → ⊥) where
+    pub in-layer3 : ID ≡ 1 → shape (len + padding) layer3 ≡ mpegShape ID layer rate bits padding
+    unfolding mpegShape layer3Shape
+    in-layer3 e =
+        let s = ne-eqb layer 3 not1 in
+        let t = ne-eqb layer 2 not2 in
+        rw (s, t, e) (ones layer3 rate bits padding len refl (rw (s, t, e) at is))
+
+    pub in-low-layer3 : (ID ≡ 1 → ⊥) → shape (len + padding) lowLayer3 ≡ mpegShape ID layer rate bits padding
+    unfolding mpegShape layer3Shape
+    in-low-layer3 d =
+        let s = ne-eqb layer 3 not1 in
+        let t = ne-eqb layer 2 not2 in
+        let u = ne-eqb ID 1 d in
+        rw (s, t, u) (ones lowLayer3 rate bits padding len refl (rw (s, t, u) at is))
+
+pub ruleset by-layer = (in-layer1, in-layer2, in-layer3, in-low-layer3)
+
+-- the length without padding, from the count of its slots
+module _ (ID layer rate bits n : ℕ) where
+  pub floor1 : layer ≡ 3 → n ≡ layer1 .factor * bits / rate → n * 4 ≡ mpegShape ID layer rate bits 0 .«frame_len»
+  unfolding mpegShape
+  floor1 e h = rw (e, h) (omega arith)
+
+  pub floor2 : layer ≡ 2 → n ≡ layer2 .factor * bits / rate → n ≡ mpegShape ID layer rate bits 0 .«frame_len»
+  unfolding mpegShape
+  floor2 e h = rw (e, h) (omega arith)
+
+  module _ (not1 : layer ≡ 3 → ⊥) (not2 : layer ≡ 2 → ⊥) where
+    pub floor3 : ID ≡ 1 → n ≡ layer3 .factor * bits / rate → n ≡ mpegShape ID layer rate bits 0 .«frame_len»
+    unfolding mpegShape layer3Shape
+    floor3 e h = rw (ne-eqb layer 3 not1, ne-eqb layer 2 not2, e, h) (omega arith)
+
+    pub low-floor3 : (ID ≡ 1 → ⊥) → n ≡ lowLayer3 .factor * bits / rate → n ≡ mpegShape ID layer rate bits 0 .«frame_len»
+    unfolding mpegShape layer3Shape
+    low-floor3 d h = rw (ne-eqb layer 3 not1, ne-eqb layer 2 not2, ne-eqb ID 1 d, h) (omega arith)
+
+pub ruleset floors = (floor1, floor2, floor3, low-floor3)
 
 -- past the end of the tables there is no rate
 pub past-index : (ID layer k : ℕ) → 15 < k → 0 ≡ mpegKbps ID layer k

@@ -6,7 +6,7 @@ ghost use lib.ListN.{length};
 ghost use Rattle.heads.specs.Bits.{fits};
 ghost use Rattle.heads.specs.Numbers.{adtsAnswer, headAnswer};
 ghost use Rattle.heads.specs.Judge.{verdictOf};
-ghost use Rattle.heads.specs.Adts.{adtsWidths, adtsListed, adtsFields, adtsRates, adtsFacts, adtsJudged, adtsReported, adtsReport, adtsHeaderOf, adtsHeaderLength, withoutHeader};
+ghost use Rattle.heads.specs.Adts.{adtsWidths, adtsListed, adtsFields, adtsRates, adtsFacts, adtsJudged, adtsReported, adtsReport, adtsHeaderOf, withoutHeader};
 use crate::fields::AdtsFields;
 use crate::info::AudioFrameInfo;
 use crate::info::AudioFrameKind;

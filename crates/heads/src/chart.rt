@@ -3,19 +3,18 @@ ghost use mathlib.Core.Path.{_≡_};
 ghost use mathlib.Core.Bool.{true};
 ghost use Rattle.heads.specs.Bits.{fits};
 ghost use Rattle.heads.specs.Numbers.{headAnswer};
-ghost use Rattle.heads.specs.Mpeg.{mpegWidths, mpegListed, InTables, mpegFacts, mpegHead, mpegJudged, mpegKbps, mpegRate, shapeOf};
+ghost use Rattle.heads.specs.Mpeg.{mpegWidths, mpegListed, InTables, mpegFacts, mpegHead, mpegJudged, mpegKbps, mpegRate};
 ghost use Rattle.heads.specs.Chart.{chart, unpadded};
 use crate::fields::MpegFields;
 use crate::info::AudioFrameInfo;
-use crate::info::AudioFrameKind;
 use crate::info::Head;
 use crate::info::Refusal;
 use crate::info::Verdict;
-use crate::mpeg::MpegShape;
 use crate::mpeg::mpeg_fields;
 use crate::mpeg::mpeg_info;
 use crate::mpeg::mpeg_kbps;
 use crate::mpeg::mpeg_sample_rate;
+use crate::mpeg::mpeg_shape;
 use crate::mpeg::mpeg_verdict;
 
 // The length of a frame without padding, in bytes, for each ID, layer, bitrate_index and sampling_frequency. A
@@ -338,34 +337,8 @@ fn facts_by_chart(f: MpegFields) -> AudioFrameInfo
 {
     let bitrate = mpeg_kbps(f.id, f.layer, f.bitrate_index as usize) as u32 * 1000;
     let sample_rate = mpeg_sample_rate(f.id, f.sampling_frequency as usize);
-    mpeg_info(chart_shape(f), bitrate, sample_rate, f.mode)
-}
-
-// What a frame's layer decides. Padding is one slot more: four bytes in Layer I, one in the others.
-fn chart_shape(f: MpegFields) -> MpegShape
-    requires { ⌜ InTables f ⌝ }
-    ensures { λ r. ⌜ r ≡ shapeOf f ⌝ }
-{
     let unpadded = chart_len(f) as usize;
-    let padding = f.padding_bit as usize;
-    let layer = f.layer;
-    match layer {
-        3 => MpegShape {
-            frame_len: unpadded + padding * 4,
-            samples: 384,
-            kind: AudioFrameKind::MpegLayer1,
-        },
-        2 => MpegShape {
-            frame_len: unpadded + padding,
-            samples: 1152,
-            kind: AudioFrameKind::MpegLayer2,
-        },
-        _ => MpegShape {
-            frame_len: unpadded + padding,
-            samples: if f.id == 1 { 1152 } else { 576 },
-            kind: AudioFrameKind::MpegLayer3,
-        },
-    }
+    mpeg_info(mpeg_shape(f, unpadded), bitrate, sample_rate, f.mode)
 }
 
 // A length by the chart. Layers I, II and III have the codes 3, 2 and 1.

@@ -6,7 +6,7 @@ ghost use lib.ListN.{length, getD};
 ghost use Rattle.heads.specs.Bits.{fits};
 ghost use Rattle.heads.specs.Numbers.{headAnswer};
 ghost use Rattle.heads.specs.Judge.{verdictOf};
-ghost use Rattle.heads.specs.Mpeg.{mpegWidths, mpegListed, mpegFields, InTables, mpegInfo, mpegFacts, mpegJudged, mpegHead, mpegKbps, mpegRate, mpegShape, layer3Shape, mpegChannels};
+ghost use Rattle.heads.specs.Mpeg.{mpegWidths, mpegListed, mpegFields, InTables, mpegInfo, mpegFacts, mpegJudged, mpegHead, mpegKbps, mpegRate, mpegShape, shapeOf, unpaddedOf, mpegChannels};
 use crate::fields::MpegFields;
 use crate::info::AudioFrameInfo;
 use crate::info::AudioFrameKind;
@@ -216,8 +216,8 @@ fn mpeg_facts(f: MpegFields) -> AudioFrameInfo
 {
     let bitrate = mpeg_kbps(f.id, f.layer, f.bitrate_index as usize) as u32 * 1000;
     let sample_rate = mpeg_sample_rate(f.id, f.sampling_frequency as usize);
-    let shape = mpeg_shape(f.id, f.layer, sample_rate, bitrate, f.padding_bit as usize);
-    mpeg_info(shape, bitrate, sample_rate, f.mode)
+    let unpadded = unpadded_len(f.id, f.layer, sample_rate, bitrate);
+    mpeg_info(mpeg_shape(f, unpadded), bitrate, sample_rate, f.mode)
 }
 
 // The same of a frame whose shape and rates are known.
@@ -280,49 +280,47 @@ pub fn mpeg_channels(mode: u8) -> u16
     if mode == 3 { 1 } else { 2 }
 }
 
-// Layer I counts in slots of four bytes; Layer III has half the samples at the lower sampling frequencies.
-fn mpeg_shape(id: u8, layer: u8, sample_rate: u32, bitrate: u32, padding: usize) -> MpegShape
-    requires { ⌜ (0 < «sample_rate») × (bitrate ≤ 448000) × (padding < 256) ⌝ }
-    ensures { λ r. ⌜ r ≡ mpegShape id layer «sample_rate» bitrate padding ⌝ }
+// What a frame's layer decides, given its length without padding. Padding is one slot more: four bytes in Layer I, one
+// in the others. Layer III has half the samples at the lower sampling frequencies.
+pub fn mpeg_shape(f: MpegFields, unpadded: usize) -> MpegShape
+    requires { ⌜ (unpadded ≡ unpaddedOf f) × (unpadded ≤ 258048000) ⌝ }
+    ensures { λ r. ⌜ r ≡ shapeOf f ⌝ }
 {
+    let padding = f.padding_bit as usize;
+    let layer = f.layer;
     match layer {
-        3 => {
-            let frame_len = slots(12, bitrate, sample_rate) * 4 + padding * 4;
-            MpegShape {
-                frame_len,
-                samples: 384,
-                kind: AudioFrameKind::MpegLayer1,
-            }
-        }
-        2 => {
-            let frame_len = slots(144, bitrate, sample_rate) + padding;
-            MpegShape {
-                frame_len,
-                samples: 1152,
-                kind: AudioFrameKind::MpegLayer2,
-            }
-        }
-        _ => layer3_shape(id, sample_rate, bitrate, padding),
+        3 => MpegShape {
+            frame_len: unpadded + padding * 4,
+            samples: 384,
+            kind: AudioFrameKind::MpegLayer1,
+        },
+        2 => MpegShape {
+            frame_len: unpadded + padding,
+            samples: 1152,
+            kind: AudioFrameKind::MpegLayer2,
+        },
+        _ => MpegShape {
+            frame_len: unpadded + padding,
+            samples: if f.id == 1 { 1152 } else { 576 },
+            kind: AudioFrameKind::MpegLayer3,
+        },
     }
 }
 
-fn layer3_shape(id: u8, sample_rate: u32, bitrate: u32, padding: usize) -> MpegShape
-    requires { ⌜ (0 < «sample_rate») × (bitrate ≤ 448000) × (padding < 256) ⌝ }
-    ensures { λ r. ⌜ r ≡ layer3Shape id «sample_rate» bitrate padding ⌝ }
+// The length without padding: Layer I counts in slots of four bytes, the others in bytes.
+fn unpadded_len(id: u8, layer: u8, sample_rate: u32, bitrate: u32) -> usize
+    requires { ⌜ (0 < «sample_rate») × (bitrate ≤ 448000) ⌝ }
+    ensures { λ r. ⌜ (r ≡ mpegShape id layer «sample_rate» bitrate 0 .«frame_len») × (r ≤ 258048000) ⌝ }
 {
-    if id == 1 {
-        let frame_len = slots(144, bitrate, sample_rate) + padding;
-        MpegShape {
-            frame_len,
-            samples: 1152,
-            kind: AudioFrameKind::MpegLayer3,
-        }
-    } else {
-        let frame_len = slots(72, bitrate, sample_rate) + padding;
-        MpegShape {
-            frame_len,
-            samples: 576,
-            kind: AudioFrameKind::MpegLayer3,
+    match layer {
+        3 => slots(12, bitrate, sample_rate) * 4,
+        2 => slots(144, bitrate, sample_rate),
+        _ => {
+            if id == 1 {
+                slots(144, bitrate, sample_rate)
+            } else {
+                slots(72, bitrate, sample_rate)
+            }
         }
     }
 }

@@ -1,4 +1,4 @@
--- What the chart and the tables say. Assumes nothing.
+-- What the tables and the chart say. Assumes nothing.
 use borrow.Author.Needs.{needs}
 use Rattle.heads.proofs.chart.facts_by_chart.Statement.{statement}
 use Rattle.heads.proofs.chart.facts_by_chart.Tie as tie
@@ -21,8 +21,14 @@ cast-mpeg-sample-rate c = search needs
 mpeg-sample-rate-requires : tie.Need-mpeg-sample-rate-requires
 mpeg-sample-rate-requires c κs = search needs
 
-chart-shape-requires : tie.Need-chart-shape-requires
-chart-shape-requires c κs = search needs
+chart-len-requires : tie.Need-chart-len-requires
+chart-len-requires c κs = search needs
+
+cast-unpadded : tie.Need-cast-unpadded
+cast-unpadded c = search needs
+
+mpeg-shape-requires : tie.Need-mpeg-shape-requires
+mpeg-shape-requires c κs = search needs
 
 mpeg-info-requires : tie.Need-mpeg-info-requires
 mpeg-info-requires c κs = search needs
@@ -40,6 +46,8 @@ facts-by-chart-spec =
     mul-bitrate
     cast-mpeg-sample-rate
     mpeg-sample-rate-requires
-    chart-shape-requires
+    chart-len-requires
+    cast-unpadded
+    mpeg-shape-requires
     mpeg-info-requires
     returns)

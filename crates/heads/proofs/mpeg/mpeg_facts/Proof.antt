@@ -1,4 +1,4 @@
--- What the formulas and the tables say. Assumes nothing.
+-- What the tables and the formulas say. Assumes nothing.
 use borrow.Author.Needs.{needs}
 use Rattle.heads.proofs.mpeg.mpeg_facts.Statement.{statement}
 use Rattle.heads.proofs.mpeg.mpeg_facts.Tie as tie
@@ -21,11 +21,11 @@ cast-mpeg-sample-rate c = search needs
 mpeg-sample-rate-requires : tie.Need-mpeg-sample-rate-requires
 mpeg-sample-rate-requires c κs = search needs
 
-cast-mpeg-shape : tie.Need-cast-mpeg-shape
-cast-mpeg-shape c = search needs
+unpadded-len-requires : tie.Need-unpadded-len-requires
+unpadded-len-requires c κs = search needs
 
 mpeg-shape-requires : tie.Need-mpeg-shape-requires
-mpeg-shape-requires c κs = search needs
+mpeg-shape-requires c κs = (cc, search needs)
 
 mpeg-info-requires : tie.Need-mpeg-info-requires
 mpeg-info-requires c κs = search needs
@@ -43,7 +43,7 @@ mpeg-facts-spec =
     mul-bitrate
     cast-mpeg-sample-rate
     mpeg-sample-rate-requires
-    cast-mpeg-shape
+    unpadded-len-requires
     mpeg-shape-requires
     mpeg-info-requires
     returns)

@@ -1,55 +1,37 @@
--- `mpeg_shape` meets its contract. Assumes nothing.
-use Rattle.heads.proofs.Grounds.{grounds}
-use Rattle.heads.proofs.MpegLaws.{fours, ones}
-use Rattle.heads.specs.Mpeg.{mpegShape}
+-- By the layer. Assumes nothing.
+use Rattle.heads.proofs.MpegLaws.{by-layer}
 use borrow.Author.Needs.{needs}
 use Rattle.heads.proofs.mpeg.mpeg_shape.Statement.{statement}
 use Rattle.heads.proofs.mpeg.mpeg_shape.Tie as tie
 
-slots-requires : tie.Need-slots-requires
-slots-requires c κs = search needs
+cast-padding : tie.Need-cast-padding
+cast-padding c = search needs
 
-mul-frame-len : tie.Need-mul-frame-len
-mul-frame-len c = search needs
+mul-t10 : tie.Need-mul-t10
+mul-t10 c = search needs
 
-mul-frame-len-2 : tie.Need-mul-frame-len-2
-mul-frame-len-2 c = search needs
+add-t11 : tie.Need-add-t11
+add-t11 c = search needs
 
-add-frame-len : tie.Need-add-frame-len
-add-frame-len c = search needs
+add-t15 : tie.Need-add-t15
+add-t15 c = search needs
 
-slots-requires-2 : tie.Need-slots-requires-2
-slots-requires-2 c κs = search needs
-
-add-frame-len-2 : tie.Need-add-frame-len-2
-add-frame-len-2 c = search needs
-
-layer3-shape-requires : tie.Need-layer3-shape-requires
-layer3-shape-requires c κs = search needs
+add-t19 : tie.Need-add-t19
+add-t19 c = search needs
 
 returns : tie.Need-returns
-unfolding mpegShape
-returns c = search (grounds, fours) depth 8
+returns c = search by-layer
 
 returns-2 : tie.Need-returns-2
-unfolding mpegShape
-returns-2 c = search (grounds, ones) depth 8
+returns-2 c = search by-layer
 
 returns-3 : tie.Need-returns-3
-unfolding mpegShape
-returns-3 c = search grounds depth 8
+returns-3 c = search by-layer
+
+returns-4 : tie.Need-returns-4
+returns-4 c = search by-layer
 
 pub mpeg-shape-spec : {M : Type 1} → statement M
 mpeg-shape-spec =
     tie.close
-    (tie.spec
-    slots-requires
-    mul-frame-len
-    mul-frame-len-2
-    add-frame-len
-    slots-requires-2
-    add-frame-len-2
-    layer3-shape-requires
-    returns
-    returns-2
-    returns-3)
+    (tie.spec cast-padding mul-t10 add-t11 add-t15 add-t19 returns returns-2 returns-3 returns-4)
