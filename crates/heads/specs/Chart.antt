@@ -3,11 +3,16 @@
 use Prim.Native.Nat.{ℕ, _*_}
 use mathlib.Core.List.{List, [], _∷_, _++_}
 use Rattle.heads.specs.Mpeg.{mpegKbps, mpegRate, mpegShape}
+use Rattle.heads.specs.declared.fields.MpegFields.{MpegFields}
 
 -- floor(12 × bit rate / rate) × 4 in Layer I, floor(144 × bit rate / rate) in Layers II and III, and with 72 in Layer
 -- III of ID 0: the shape of a frame whose padding_bit is 0
 abbrev pub unpadded : ℕ → ℕ → ℕ → ℕ → ℕ
 unpadded ID layer index rate = mpegShape ID layer (mpegRate ID rate) (mpegKbps ID layer index * 1000) 0 .«frame_len»
+
+-- of the fields of a head
+abbrev pub unpaddedOf : MpegFields → ℕ
+unpaddedOf f = unpadded (f .id) (f .layer) (f .«bitrate_index») (f .«sampling_frequency»)
 
 -- a list for each of some numbers, one behind the other
 abbrev pub forEach : List ℕ → (ℕ → List ℕ) → List ℕ

@@ -213,10 +213,6 @@ rateOf f = mpegRate (f .id) (f .«sampling_frequency»)
 abbrev pub shapeOf : MpegFields → MpegShape
 shapeOf f = mpegShape (f .id) (f .layer) (rateOf f) (kbpsOf f * 1000) (f .«padding_bit»)
 
--- its length without padding
-abbrev pub unpaddedOf : MpegFields → ℕ
-unpaddedOf f = mpegShape (f .id) (f .layer) (rateOf f) (kbpsOf f * 1000) 0 .«frame_len»
-
 abbrev pub mpegFacts : MpegFields → AudioFrameInfo
 mpegFacts f = mpegInfo (shapeOf f) (kbpsOf f * 1000) (rateOf f) (f .mode)
 

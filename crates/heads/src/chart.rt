@@ -4,7 +4,7 @@ ghost use mathlib.Core.Bool.{true};
 ghost use Rattle.heads.specs.Bits.{fits};
 ghost use Rattle.heads.specs.Numbers.{headAnswer};
 ghost use Rattle.heads.specs.Mpeg.{mpegWidths, mpegListed, InTables, mpegFacts, mpegHead, mpegJudged, mpegKbps, mpegRate};
-ghost use Rattle.heads.specs.Chart.{chart, unpadded};
+ghost use Rattle.heads.specs.Chart.{chart, unpaddedOf};
 use crate::fields::MpegFields;
 use crate::info::AudioFrameInfo;
 use crate::info::Head;
@@ -344,7 +344,7 @@ fn facts_by_chart(f: MpegFields) -> AudioFrameInfo
 // A length by the chart. Layers I, II and III have the codes 3, 2 and 1.
 fn chart_len(f: MpegFields) -> u16
     requires { ⌜ InTables f ⌝ }
-    ensures { λ r. ⌜ r ≡ unpadded (f .id) (f .layer) (f .«bitrate_index») (f .«sampling_frequency») ⌝ }
+    ensures { λ r. ⌜ r ≡ unpaddedOf f ⌝ }
 {
     let chart = mpeg_chart();
     let part = f.id * 3 + (3 - f.layer);
