@@ -27,16 +27,19 @@ awaited() {
 # ended, $message what it said, $total the stream's length, $passed_on how tee ended, if there is
 # one.
 cut_stream() {
-  local feed words reasons text count
+  local feed words reasons go text count
   cutter='' reader='' passer='' watcher='' passed_on=0
-  exec {words}<> <(:) {reasons}<> <(:)
+  exec {words}<> <(:) {reasons}<> <(:) {go}<> <(:)
   trap 'end_by HUP' HUP
   trap 'end_by INT' INT
   trap 'end_by TERM' TERM
   [ -n "$again" ] || take_front
   open_sheet
-  exec {feed}> >(exec "$program" 2>&"$words" >&"$sheet" 3>&- {stream}<&-)
+  # The program waits until the shell knows it: of one that dies sooner, bash 5.2 loses the status (-1).
+  exec {feed}> >(read -r -t 10 <&"$go"; exec "$program" 2>&"$words" >&"$sheet" 3>&- {stream}<&- {go}<&-)
   cutter=$!
+  echo >&"$go"
+  exec {go}>&-
   [ "$sheet" -eq 3 ] || exec {sheet}>&-
   { printf '%s\n' "$1"; hand_on; } 2>&"$reasons" >&"$feed" 3>&- &
   reader=$!
