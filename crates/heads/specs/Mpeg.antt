@@ -216,7 +216,8 @@ shapeOf f = mpegShape (f .id) (f .layer) (rateOf f) (kbpsOf f * 1000) (f .«padd
 abbrev pub mpegFacts : MpegFields → AudioFrameInfo
 mpegFacts f = mpegInfo (shapeOf f) (kbpsOf f * 1000) (rateOf f) (f .mode)
 
--- what the fields say: 2, 3, 5, 4
+-- what the fields say: 2, 3, 5, 4. It is asked of fields that fit their widths: a sampling_frequency of 4, say, which no
+-- bytes give, has a rate of 0
 unfoldable pub mpegJudged : MpegFields → Head
 mpegJudged f =
     refuseIf (not (eqb (f .syncword) 0xFFF)) NoSyncWord
@@ -230,7 +231,8 @@ mpegJudged f =
 unfoldable pub mpegHead : List ℕ → Head
 mpegHead b = refuseIf (ltb (length b) 4) ShortHead (mpegJudged (mpegFields b))
 
--- the fields of a head that is accepted stand in the tables of bit rates and rates, and so in the chart of lengths
+-- the fields of a head that is accepted, which stand in the tables of bit rates and rates, and so in the chart of
+-- lengths
 abbrev pub InTables : MpegFields → Type 0
 InTables f =
     (f .id < 2) × (0 < f .layer) × (f .layer < 4) × (0 < f .«bitrate_index») × (f .«bitrate_index» < 15)

@@ -60,7 +60,8 @@ pub enum Head {
     Refused(Refusal),
 }
 
-// Whether a head's fields are accepted, or the first ground on which they are not. What they say is another matter.
+// Whether a head's fields are accepted, or the first ground on which they are not: a judgement without its facts, which
+// readers that find the facts in different ways share.
 pub enum Verdict {
     Accepted,
     Refused(Refusal),
