@@ -124,6 +124,7 @@ abbrev pub withHeader : Head → ℕ → AdtsHead
 withHeader (Read i) n = AdtsHead.Read i n
 withHeader (Refused ground) n = AdtsHead.Refused ground
 
+-- of fields, and of bytes
 abbrev pub adtsReported : AdtsFields → AdtsHead
 adtsReported f = withHeader (adtsJudged adtsRates f) (adtsHeaderOf f)
 
