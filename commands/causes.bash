@@ -169,6 +169,9 @@ not_known() {
     because "It is text, as a web page or a play list is, and no sound."
   elif [[ $hex =~ ^0+$ ]]; then
     because "It begins with zeros. Perhaps it was not copied to its end: copy it once more."
+  elif is_type_3; then
+    because "It begins as E-AC-3 of stream type 3, which the standard reserves: such frames are not read." \
+      "What can be cut is E-AC-3 of the types 0 to 2. Ask for the stream again where it was made."
   else
     because "The cause is not known: it begins with nothing that this command knows." \
       "Its first bytes are$(bytes "$before" 16 | od -An -tx1)."
@@ -179,6 +182,12 @@ not_known() {
 # Whether $hex has no control characters.
 is_text() {
   [[ $hex =~ ^(09|0a|0d|1b|[2-6].|7[0-9a-e]|[89a-f].){8,}$ ]]
+}
+
+# Whether $hex is the head of an E-AC-3 frame whose stream type is 3: the top two bits of byte 2, where
+# byte 5 begins with a bsid of 11 to 16.
+is_type_3() {
+  [[ $hex =~ ^0b77[c-f].{5}(5[89a-f]|[67].|8[0-7]) ]]
 }
 
 # Whether $hex is text in 16-bit characters, by the two bytes before it. They can also begin a

@@ -45,7 +45,7 @@ enum { AUDIO_FRAME_RECORD = 24 };
  *    1  head too short: below 6 bytes (code 0), 4 (1), 7 (2); AC-3 below 7
  *    2  no sync word
  *    3  bsid 9, 10 or above 16; MPEG layer code 0; ADTS layer not 0
- *    4  reserved rate or size code
+ *    4  reserved rate or size code; in E-AC-3 also strmtyp 3
  *    5  MPEG bit rate index 0 or 15
  *    6  ADTS frame shorter than its head: under 7; with CRC under 9, 11, 13, 15 for 1 to 4 blocks
  * The order is 1, 2, 3, 4 and at last 1 for AC-3's seventh byte (code 0); 1, 2, 3, 5, 4 (code 1);

@@ -508,4 +508,28 @@ part_unknown() {
   try "unknown bytes" "$command" 1 unknown
   ended 3
   said 'The cause is not known' '01 02 03 04 05 06 07 08' ffprobe '-c:a copy'
+  stream_type_3
+}
+
+# E-AC-3 of the reserved stream type, at both ends of its bsid; with bsid 10 and 17 it is not known. Behind one such
+# frame the others can be cut.
+stream_type_3() {
+  local bsid
+  for bsid in 58 80; do
+    for n in {0..1199}; do digits "0B77C0033F${bsid}0000"; done >type-3
+    try "E-AC-3 of stream type 3, $bsid" "$command" 0 type-3
+    ended 3
+    said 'E-AC-3 of stream type 3'
+    not_said ffmpeg
+  done
+  for bsid in 50 88; do
+    for n in {0..1199}; do digits "0B77C0033F${bsid}0000"; done >no-type
+    try "what only looks like stream type 3, $bsid" "$command" 0 no-type
+    ended 3
+    said 'The cause is not known'
+  done
+  { head -c 8 type-3; cat "$demo/eac3-48000-stereo-128k.eac3"; } >first-of-type-3
+  modelled 0 "$demo/eac3-48000-stereo-128k.eac3"
+  helped "a first frame of stream type 3" 3 0 first-of-type-3 expected
+  said 'begins behind the first 8 bytes'
 }

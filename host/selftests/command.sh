@@ -405,6 +405,10 @@ wrong_causes() {
   wrong unknown wide-text-is-sound 'elif ! is_text_16 && syntax_at' 'elif syntax_at'
   wrong unknown zeros-not-known '[[ $hex =~ ^0+$ ]]' false
   wrong unknown everything-is-text 'if is_text_16 || is_text' 'if true'
+  wrong unknown type-3-not-known 'elif is_type_3; then' 'elif false; then'
+  wrong unknown type-3-up-to-bsid-15 '(5[89a-f]|[67].|8[0-7])' '(5[89a-f]|[67].)'
+  wrong unknown type-3-with-any-bsid '(5[89a-f]|[67].|8[0-7])' ''
+  wrong unknown type-3-before-the-sound-within 'known_format "$hex" || sound_within' 'known_format "$hex" || is_type_3 || sound_within'
   wrong formats mp4-by-its-first-byte '00??????66747970*' '01??????66747970*'
   wrong formats samples-are-copied '(0100|0200|' '(0101|0200|'
   wrong formats webm-is-copied "1a45dfa3*7765626d*) encoded 'a WebM file'" "1a45dfa3*7765626d*) container 'a WebM file'"

@@ -23,6 +23,9 @@ enum fault {
     TAKES_23_BYTES,
     READS_PAST_HEAD,
     COUNTS_NO_POSITIONS,
+    READS_TYPE_3,
+    REFUSES_TYPE_2,
+    REFUSES_AC3_OF_TWO_ONES,
     WRITES_BEHIND_HEAD,
     WRITES_BEFORE_PLACE,
     WRITES_BEHIND_TAPE,
@@ -37,6 +40,7 @@ enum fault {
     WRITES_ONE_FIELD_MORE,
     WRITES_NEAR_THE_LARGEST_PLACE,
     WRITES_WITHOUT_POSITIONS,
+    WRITES_TYPE_3,
     CHART_PADS_LAYER_I_BY_1,
     CHART_PADS_LAYER_II_BY_4,
     CHART_HAS_TWO_RATES_EXCHANGED,
@@ -92,6 +96,9 @@ static uint32_t write_wrongly(writer *real, size_t size, size_t count, const uin
         blocks = (uint8_t)own[14];
         own[14] = 0;
     }
+    int is_type_3 = fault == WRITES_TYPE_3 && count == AUDIO_FRAME_EAC3_FIELDS && own[1] == 3;
+    if (is_type_3)
+        own[1] = 0;
 
     uint32_t status = real(own, field_count, tape, tape_len, at);
     if (fault == WRITES_BEHIND_HEAD && status == 0 && at + size < tape_len)
@@ -108,6 +115,8 @@ static uint32_t write_wrongly(writer *real, size_t size, size_t count, const uin
         tape[at + 5] |= 1;
     if (status == 0 && blocks > 0)
         tape[at + 6] |= blocks;
+    if (status == 0 && is_type_3)
+        tape[at + 2] |= 0xC0;
     return status;
 }
 
@@ -138,6 +147,16 @@ static uint32_t read_without_positions(const uint8_t *head, uint8_t *out, size_t
     return status;
 }
 
+/* An E-AC-3 head of stream type 3 as the unchanged Rust reads it, which goes by no type: as type 0. */
+static uint32_t read_as_type_0(const uint8_t *head, uint8_t *out, size_t out_len)
+{
+    uint8_t own[6];
+
+    memcpy(own, head, sizeof own);
+    own[2] &= 0x3F;
+    return __real_audio_frame_head(AUDIO_FRAME_AC3, own, sizeof own, out, out_len);
+}
+
 uint32_t __wrap_audio_frame_head(uint32_t code, const uint8_t *head, size_t head_len, uint8_t *out,
                                  size_t out_len)
 {
@@ -157,6 +176,16 @@ uint32_t __wrap_audio_frame_head(uint32_t code, const uint8_t *head, size_t head
         head_len++;
     if (fault == COUNTS_NO_POSITIONS && code == AUDIO_FRAME_ADTS && head_len >= 7 && (head[1] & 1) == 0)
         return read_without_positions(head, out, out_len);
+    if (code == AUDIO_FRAME_AC3 && head_len >= 6) {
+        int is_eac3 = head[5] >> 3 >= 11, has_room = out_len >= sizeof record;
+        int type = head[2] >> 6; /* in AC-3 the first two bits of crc1 */
+        if (fault == READS_TYPE_3 && is_eac3 && type == 3)
+            return read_as_type_0(head, out, out_len);
+        if (fault == REFUSES_TYPE_2 && is_eac3 && type == 2 && own == 0 && has_room)
+            return 4;
+        if (fault == REFUSES_AC3_OF_TWO_ONES && !is_eac3 && type == 3 && own == 0 && has_room)
+            return 4;
+    }
 
     uint32_t status = __real_audio_frame_head(code, head, head_len, out, out_len);
     if (fault == CHANGES_BYTE_24 && status == 0 && out_len > 24)

@@ -136,6 +136,11 @@ wrong_edit() {
     'if protection_absent == 1 { 7 } else { 9 + 2 * raw_blocks as usize }' "if protection_absent == 1 $2"
 }
 
+# wrong_type NAME NEW: K6's edit refuses E-AC-3 heads by another condition.
+wrong_type() {
+  instead "$1" oracle/requested/K6-stream-type-3.edit 'b[2] >> 6 == 3' "$2"
+}
+
 # wrong_domain NAME OLD NEW: another domain of equality.
 wrong_domain() {
   instead "$1" oracle/src/domain/mod.rs "$2" "$3"

@@ -16,6 +16,7 @@ use Rattle.heads.specs.Ac3.{ac3Fields, ac3Judged, acmodOf, ac3TailWidths
 use Rattle.heads.specs.Eac3.{eac3Fields, eac3Judged, eac3Read, fscodOf, eac3TailWidths, fscod2Bits, numblkscodBits, eac3Rates, eac3Blocks}
 use Rattle.heads.specs.A52.{a52Head, byBsid, isAc3, isEac3, ac3Syncword}
 use Rattle.heads.proofs.Pack.{both-true}
+use Rattle.heads.proofs.Grounds.{stop, pass}
 use Rattle.heads.specs.declared.info.Head.{Head}
 use Rattle.heads.specs.declared.info.Head.the-variants.{Refused}
 use Rattle.heads.specs.declared.info.Refusal.the-variants.{ShortHead, NoSyncWord, ReservedCode}
@@ -101,24 +102,37 @@ module _ (b : List ℕ) (byte : Bytes b) where
   unfolding Bytes number
   lfeon-is = omega (arith, byte 4, byte 5)
 
-  -- E-AC-3 at a reduced rate, and at a full one
-  pub halved : (x : Head) → getD b 4 0 / 64 ≡ 3
-      → x ≡ refuseIf (eqb (getD b 4 0 / 16 % 4) 3) ReservedCode
-      (eac3Read ((getD b 2 0 % 8 * 256 + getD b 3 0 + 1) * 2) 6 (getD eac3Rates (getD b 4 0 / 16 % 4) 0)
-      (nfchans (getD b 4 0 / 2 % 8) + getD b 4 0 % 2)) → x ≡ eac3Judged (eac3Fields b)
-  unfolding eac3Judged eac3TailWidths fscod2Bits numblkscodBits
-  halved x h j =
-      let three = eq-eqb (fscodOf (number 6 b)) 3 (fscod-is ∙ h) in
-      rw (three, three, frmsiz-is, code2-is, acmod-is, lfeon-is) j
+  strmtyp-is : eac3Fields b .strmtyp ≡ getD b 2 0 / 64
+  unfolding Bytes number
+  strmtyp-is = rw (eac3-tail (fscodOf (number 6 b))) (omega (arith, byte 2, byte 3, byte 4, byte 5))
 
-  pub whole : (x : Head) → (getD b 4 0 / 64 ≡ 3 → ⊥)
-      → x ≡ eac3Read ((getD b 2 0 % 8 * 256 + getD b 3 0 + 1) * 2) (getD eac3Blocks (getD b 4 0 / 16 % 4) 0)
-      (getD ac3Rates (getD b 4 0 / 64) 0) (nfchans (getD b 4 0 / 2 % 8) + getD b 4 0 % 2) → x ≡ eac3Judged
-      (eac3Fields b)
-  unfolding eac3Judged eac3TailWidths fscod2Bits numblkscodBits
-  whole x h j =
-      let other = ne-eqb (fscodOf (number 6 b)) 3 (λ e. h (sym fscod-is ∙ e)) in
-      rw (other, other, frmsiz-is, fscod-is, code2-is, acmod-is, lfeon-is) j
+  -- E-AC-3 of the reserved stream type
+  pub of-no-type : getD b 2 0 / 64 ≡ 3 → Refused ReservedCode ≡ eac3Judged (eac3Fields b)
+  unfolding eac3Judged
+  of-no-type h = stop _ _ _ (eq-eqb (eac3Fields b .strmtyp) 3 (strmtyp-is ∙ h))
+
+  -- of the other ones, at a reduced rate, and at a full one
+  module _ (typed : getD b 2 0 / 64 ≡ 3 → ⊥) where
+    has-type : eqb (eac3Fields b .strmtyp) 3 ≡ false
+    has-type = ne-eqb (eac3Fields b .strmtyp) 3 λ e. typed (sym strmtyp-is ∙ e)
+
+    pub halved : (x : Head) → getD b 4 0 / 64 ≡ 3
+        → x ≡ refuseIf (eqb (getD b 4 0 / 16 % 4) 3) ReservedCode
+        (eac3Read ((getD b 2 0 % 8 * 256 + getD b 3 0 + 1) * 2) 6 (getD eac3Rates (getD b 4 0 / 16 % 4) 0)
+        (nfchans (getD b 4 0 / 2 % 8) + getD b 4 0 % 2)) → x ≡ eac3Judged (eac3Fields b)
+    unfolding eac3Judged eac3TailWidths fscod2Bits numblkscodBits
+    halved x h j =
+        let three = eq-eqb (fscodOf (number 6 b)) 3 (fscod-is ∙ h) in
+        pass _ _ _ _ has-type (rw (three, three, frmsiz-is, code2-is, acmod-is, lfeon-is) j)
+
+    pub whole : (x : Head) → (getD b 4 0 / 64 ≡ 3 → ⊥)
+        → x ≡ eac3Read ((getD b 2 0 % 8 * 256 + getD b 3 0 + 1) * 2) (getD eac3Blocks (getD b 4 0 / 16 % 4) 0)
+        (getD ac3Rates (getD b 4 0 / 64) 0) (nfchans (getD b 4 0 / 2 % 8) + getD b 4 0 % 2) → x ≡ eac3Judged
+        (eac3Fields b)
+    unfolding eac3Judged eac3TailWidths fscod2Bits numblkscodBits
+    whole x h j =
+        let other = ne-eqb (fscodOf (number 6 b)) 3 (λ e. h (sym fscod-is ∙ e)) in
+        pass _ _ _ _ has-type (rw (other, other, frmsiz-is, fscod-is, code2-is, acmod-is, lfeon-is) j)
 
 -- the fields of AC-3 that are judged, from the bytes
 abbrev pub ac3ByBytes : List ℕ → Ac3Fields

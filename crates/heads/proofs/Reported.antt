@@ -264,6 +264,7 @@ eac3-good : (f : Eac3Fields) → f .frmsiz < 2048 → f .fscod < 4 → f .fscod2
 unfolding eac3Judged boundsOf
 eac3-good f hs hf h2 hn ha hl =
     let m = boundsOf Ac3 in
+    refuse-good m (eqb (f .strmtyp) 3) _ _ λ _.
     cond-good m (eqb (f .fscod) 3) _ _
     (λ _.
     refuse-good m (eqb (f .fscod2) 3) _ _ λ r.

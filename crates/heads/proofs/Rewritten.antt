@@ -171,7 +171,9 @@ ac3-kind n f = go (eqb (f .fscod) 3) (leb 38 (f .frmsizecod)) (ltb n 7)
 
 eac3-kind : (f : Eac3Fields) → OfKind Eac3Kind (eac3Judged f)
 unfolding eac3Judged
-eac3-kind f = kind-on Eac3Kind (eqb (f .fscod) 3) _ _ (kind-if Eac3Kind (eqb (f .fscod2) 3) ReservedCode _ refl) refl
+eac3-kind f =
+    kind-if Eac3Kind (eqb (f .strmtyp) 3) ReservedCode _
+    (kind-on Eac3Kind (eqb (f .fscod) 3) _ _ (kind-if Eac3Kind (eqb (f .fscod2) 3) ReservedCode _ refl) refl)
 
 module _ (b : List ℕ) where
   bsid-not-ac3 : isAc3 (eac3Fields b .bsid) ≡ false → OfKind Eac3Kind (a52Head b)

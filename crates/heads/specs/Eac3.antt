@@ -100,12 +100,14 @@ eac3Read length blocks rate channels =
       «bit_rate» = Absent;
     })
 
--- what the fields say: fscod 3 means a halved rate and six blocks
+-- what the fields say. Table E2.1, stream type by strmtyp: 0 and 2 are independent streams, 1 is a dependent one, 3 is
+-- reserved (document 02, K6). fscod 3 means a halved rate and six blocks.
 unfoldable pub eac3Judged : Eac3Fields → Head
 eac3Judged f =
     let length = (f .frmsiz + 1) * 2 in
     let channels = nfchans (f .acmod) + f .lfeon in
-    cond (eqb (f .fscod) 3)
+    refuseIf (eqb (f .strmtyp) 3) ReservedCode
+    (cond (eqb (f .fscod) 3)
     (refuseIf (eqb (f .fscod2) 3) ReservedCode
     (eac3Read length 6 (getD eac3Rates (f .fscod2) 0) channels))
-    (eac3Read length (getD eac3Blocks (f .numblkscod) 0) (getD ac3Rates (f .fscod) 0) channels)
+    (eac3Read length (getD eac3Blocks (f .numblkscod) 0) (getD ac3Rates (f .fscod) 0) channels))

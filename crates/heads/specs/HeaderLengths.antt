@@ -3,29 +3,24 @@
 -- which is refused by 6.
 use mathlib.Core.List.{List, [], _∷_}
 use Prim.Native.Nat.{ℕ}
-use Rattle.heads.specs.Numbers.{HeadAnswer}
-
--- an ADTS head, and the answer of the reader that reports its length
-pub record Sized : Type 0 where
-  pub head : List ℕ
-  pub answer : HeadAnswer
+use Rattle.heads.specs.Numbers.{Answered}
 
 -- a head by its bytes 1, 4, 5 and 6; the frame's length, its samples, and the head's length
-abbrev reads : ℕ → ℕ → ℕ → ℕ → ℕ → ℕ → ℕ → Sized
+abbrev reads : ℕ → ℕ → ℕ → ℕ → ℕ → ℕ → ℕ → Answered
 reads b1 b4 b5 b6 length samples header =
     record {
       head = 0xFF ∷ b1 ∷ 0x50 ∷ 0x80 ∷ b4 ∷ b5 ∷ b6 ∷ [];
       answer = record { number = 0; values = 6 ∷ length ∷ samples ∷ 44100 ∷ 2 ∷ 0 ∷ header ∷ [] };
     }
 
-abbrev tooShort : ℕ → ℕ → ℕ → ℕ → Sized
+abbrev tooShort : ℕ → ℕ → ℕ → ℕ → Answered
 tooShort b1 b4 b5 b6 =
     record {
       head = 0xFF ∷ b1 ∷ 0x50 ∷ 0x80 ∷ b4 ∷ b5 ∷ b6 ∷ [];
       answer = record { number = 6; values = [] };
     }
 
-unfoldable pub headerLengths : List Sized
+unfoldable pub headerLengths : List Answered
 headerLengths =
     -- without CRC, one block and four
     reads 0xF1 0x00 0xE0 0x00 7 1024 7

@@ -84,6 +84,11 @@ pub record HeadAnswer : Type 0 where
   pub number : ℕ
   pub values : List ℕ
 
+-- a head and its answer, in lists worked out by hand
+pub record Answered : Type 0 where
+  pub head : List ℕ
+  pub answer : HeadAnswer
+
 abbrev pub headAnswer : Head → HeadAnswer
 headAnswer (Read i) = record { number = 0; values = inOrder (valuesOf i) }
 headAnswer (Refused ground) = record { number = refusalNumber ground; values = [] }

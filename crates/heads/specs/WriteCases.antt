@@ -48,11 +48,16 @@ writtenHeads =
     (0x0B ∷ 0x77 ∷ 0xAB ∷ 0xCD ∷ 0xA4 ∷ 0x35 ∷ 0x5C ∷ [])
     ∷ stands (ac3List (0x0B77 ∷ 0xABCD ∷ 2 ∷ 36 ∷ 6 ∷ 5 ∷ 1 ∷ 0 ∷ 0 ∷ 0 ∷ 1 ∷ []))
     (0x0B ∷ 0x77 ∷ 0xAB ∷ 0xCD ∷ 0xA4 ∷ 0x35 ∷ 0x30 ∷ [])
-    -- H3, with numblkscod; one with fscod2
+    -- a crc1 that begins with two ones (document 02, K6)
+    ∷ stands (ac3List (0x0B77 ∷ 0xC000 ∷ 0 ∷ 0 ∷ 8 ∷ 0 ∷ 2 ∷ 0 ∷ 0 ∷ 0 ∷ 0 ∷ []))
+    (0x0B ∷ 0x77 ∷ 0xC0 ∷ 0x00 ∷ 0x00 ∷ 0x40 ∷ 0x40 ∷ [])
+    -- H3, with numblkscod; one with fscod2; one of stream type 2
     ∷ stands (eac3List (0x0B77 ∷ 0 ∷ 0 ∷ 3 ∷ 0 ∷ 0 ∷ 3 ∷ 7 ∷ 1 ∷ 16 ∷ []))
     (0x0B ∷ 0x77 ∷ 0x00 ∷ 0x03 ∷ 0x3F ∷ 0x80 ∷ [])
     ∷ stands (eac3List (0x0B77 ∷ 1 ∷ 5 ∷ 0x5A7 ∷ 3 ∷ 2 ∷ 0 ∷ 5 ∷ 0 ∷ 11 ∷ []))
     (0x0B ∷ 0x77 ∷ 0x6D ∷ 0xA7 ∷ 0xEA ∷ 0x58 ∷ [])
+    ∷ stands (eac3List (0x0B77 ∷ 2 ∷ 7 ∷ 3 ∷ 0 ∷ 0 ∷ 3 ∷ 7 ∷ 1 ∷ 16 ∷ []))
+    (0x0B ∷ 0x77 ∷ 0xB8 ∷ 0x03 ∷ 0x3F ∷ 0x80 ∷ [])
     -- H5, H6, H7
     ∷ stands (mpegList (0xFFF ∷ 1 ∷ 1 ∷ 1 ∷ 9 ∷ 0 ∷ 0 ∷ 0 ∷ 3 ∷ 0 ∷ 0 ∷ 0 ∷ 0 ∷ [])) (0xFF ∷ 0xFB ∷ 0x90 ∷ 0xC0 ∷ [])
     ∷ stands (mpegList (0xFFF ∷ 0 ∷ 1 ∷ 1 ∷ 1 ∷ 1 ∷ 0 ∷ 0 ∷ 0 ∷ 0 ∷ 0 ∷ 0 ∷ 0 ∷ [])) (0xFF ∷ 0xF3 ∷ 0x14 ∷ 0x00 ∷ [])
@@ -144,6 +149,20 @@ crc len blocks = adtsList (0xFFF ∷ 0 ∷ 0 ∷ 0 ∷ 1 ∷ 4 ∷ 0 ∷ 2 ∷ 0
 abbrev shorter : List Write
 shorter = refused (crc 8 0) 7 0 6 ∷ refused (crc 10 1) 7 0 6 ∷ refused (crc 14 3) 7 0 6 ∷ []
 
+-- stream type 3, and 4, which has no room in its two bits; a foreign bsid and nobody's before it (document 02, K6)
+abbrev typed : ℕ → ℕ → Draft
+typed strmtyp bsid = eac3List (0x0B77 ∷ strmtyp ∷ 0 ∷ 3 ∷ 0 ∷ 0 ∷ 3 ∷ 7 ∷ 1 ∷ bsid ∷ [])
+
+abbrev types : List Write
+types =
+    refused (typed 3 16) 6 0 4
+    ∷ refused (typed 3 11) 6 0 4
+    ∷ refused (typed 3 16) 5 0 12
+    ∷ refused (typed 4 16) 6 0 13
+    ∷ refused (typed 3 8) 6 0 13
+    ∷ refused (typed 3 17) 6 0 3
+    ∷ []
+
 -- as many numbers as fields: one too few, one too many, none
 abbrev counts : List Write
 counts =
@@ -167,4 +186,4 @@ places =
 
 -- all of it
 unfoldable pub writeCases : List Write
-writeCases = writtenHeads ++ order ++ bsids ++ leftOut ++ shorter ++ counts ++ places
+writeCases = writtenHeads ++ order ++ bsids ++ leftOut ++ shorter ++ types ++ counts ++ places

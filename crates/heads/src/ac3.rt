@@ -302,11 +302,15 @@ pub fn dsurmod_bits(acmod: usize) -> u32
     if acmod == 2 { 2 } else { 0 }
 }
 
-// E-AC-3, Table E1.2, behind the sync word.
+// E-AC-3, Table E1.2, behind the sync word. strmtyp 3 is reserved, Table E2.1.
 fn eac3_frame(b: &[u8]) -> Head
     requires { ⌜ 6 ≤ length (now b) ⌝ }
     ensures { λ r. ⌜ r ≡ eac3Judged (eac3Fields (now (b .entry))) ⌝ }
 {
+    let strmtyp = b[2] >> 6;
+    if strmtyp == 3 {
+        return Head::Refused(Refusal::ReservedCode);
+    }
     let frmsiz = (b[2] % 8) as usize * 256 + b[3] as usize;
     let fscod = (b[4] >> 6) as usize;
     let code2 = ((b[4] >> 4) % 4) as usize;

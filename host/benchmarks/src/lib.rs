@@ -35,7 +35,7 @@ fn ac3() -> Ac3 {
 }
 
 fn eac3() -> Eac3 {
-    Eac3 { frmsiz: 383, fscod: 0, code2: 3, acmod: 7, lfeon: 1, bsid: 16 }
+    Eac3 { strmtyp: 0, frmsiz: 383, fscod: 0, code2: 3, acmod: 7, lfeon: 1, bsid: 16 }
 }
 
 fn mpeg(layer_code: u64, bit_rate_index: u64, rate_code: u64, padding: u64) -> Mpeg {

@@ -16,9 +16,9 @@ pub fn kinds(code: u32) -> &'static [u32] {
 /// One in so many that there is none.
 pub const NEVER: u64 = u64::MAX;
 
-/// A frame of that kind. Most are short, so that lines stay short. Of the short ones of ADTS one in
-/// `outside` has a head outside the domain of equality: the unchanged Rust reads it, and gives as
-/// many bytes as it says, which are fewer than its head has.
+/// A frame of that kind. Most are short, so that lines stay short. Of the short ones of E-AC-3 and ADTS
+/// one in `outside` has a head outside the domain of equality, of stream type 3, or with fewer bytes
+/// than its head has: the unchanged Rust reads it, and gives as many bytes as it says.
 pub fn frame(kind: u32, outside: u64, random: &mut Random) -> Vec<u8> {
     let head = match random.below(32) {
         0 => samples::good(kind, random),
@@ -46,7 +46,11 @@ fn short_head(kind: u32, outside: u64, random: &mut Random) -> Bytes {
         1 => samples::with_fields(head, &[(34, 6, random.below(4))]),
         2 => {
             let most = random.pick(&[4, 8, 24, 24, 200]);
-            samples::with_fields(head, &[(21, 11, random.below(most))])
+            let short = samples::with_fields(head, &[(21, 11, random.below(most))]);
+            match random.below(outside) {
+                0 => samples::with_fields(short, &[(16, 2, 3)]),
+                _ => short,
+            }
         }
         3..=5 => samples::with_fields(head, &[(16, 4, 1 + random.below(2))]),
         _ if random.below(outside) == 0 => {

@@ -20,6 +20,7 @@ pub struct Ac3 {
 
 /// E-AC-3: A/52 Table E1.2. `code2` is fscod2 where fscod is 3, else numblkscod.
 pub struct Eac3 {
+    pub strmtyp: u64,
     pub frmsiz: u64,
     pub fscod: u64,
     pub code2: u64,
@@ -80,6 +81,7 @@ impl Eac3 {
     pub fn head(&self, rest: Bytes) -> Bytes {
         let fields = [
             (0, 16, 0x0B77),
+            (16, 2, self.strmtyp),
             (21, 11, self.frmsiz),
             (32, 2, self.fscod),
             (34, 2, self.code2),
@@ -93,6 +95,7 @@ impl Eac3 {
     fn any(random: &mut Random) -> Self {
         let fscod = random.below(4);
         Eac3 {
+            strmtyp: random.below(3),
             frmsiz: random.below(2048),
             fscod,
             code2: random.below(if fscod == 3 { 3 } else { 4 }),
@@ -146,13 +149,16 @@ impl Adts {
     }
 
     fn any(random: &mut Random) -> Self {
+        let further_blocks = random.below(4);
+        // With CRC the head has so many bytes.
+        let least = 9 + 2 * further_blocks;
         Adts {
             layer: 0,
             protection_absent: random.below(2),
             rate_code: random.below(12),
             channel_configuration: random.below(8),
-            frame_length: 9 + random.below(8183),
-            further_blocks: random.below(4),
+            frame_length: least + random.below(8192 - least),
+            further_blocks,
         }
     }
 }
@@ -166,7 +172,8 @@ pub fn code_of(kind: u32) -> u32 {
     }
 }
 
-/// A head of that kind that the unchanged Rust reads, its fields and all other bits by chance.
+/// A head of that kind that reads, its fields and all other bits by chance. It is inside the domain of
+/// equality: the unchanged Rust reads it too.
 pub fn good(kind: u32, random: &mut Random) -> Bytes {
     let rest = random.bytes();
     match kind {

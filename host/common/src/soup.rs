@@ -15,14 +15,14 @@ pub enum Sort {
     AnyBytes,
 }
 
-/// A stream of that sort, some hundred bytes long. Of code 2 one frame in ten or so is outside the
-/// domain of equality, but none in many of the streams, so that these are inside to their end.
+/// A stream of that sort, some hundred bytes long. Of E-AC-3 and ADTS one frame in ten or so is outside
+/// the domain of equality, but none in many of the streams, so that these are inside to their end.
 pub fn stream(sort: Sort, code: u32, random: &mut Random) -> Vec<u8> {
     let outside = random.pick(&[5, 15, NEVER]);
     stream_with(sort, code, outside, random)
 }
 
-/// The same; one short ADTS frame in `outside` is outside the domain.
+/// The same; one short frame in `outside` of E-AC-3 and ADTS is outside the domain.
 pub fn stream_with(sort: Sort, code: u32, outside: u64, random: &mut Random) -> Vec<u8> {
     match sort {
         Sort::Whole => whole(code, outside, random),

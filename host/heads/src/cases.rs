@@ -35,9 +35,9 @@ const fn case(name: &'static str, code: u32, head: &'static [u8], says: Answer) 
     Case { name, code, head, says }
 }
 
-/// All heads: document 01's corners, its number table, then K3's.
+/// All heads: document 01's corners, its number table, then K3's and K6's.
 pub fn heads() -> impl Iterator<Item = &'static Case> {
-    CORNERS.iter().chain(&NUMBERS).chain(&K3)
+    CORNERS.iter().chain(&NUMBERS).chain(&K3).chain(&K6)
 }
 
 #[rustfmt::skip]
@@ -91,6 +91,38 @@ pub static K3: [Case; 14] = [
     case("K3, number 2", 2, &[0xFF, 0x70, 0x50, 0x80, 0x01, 0x20, 0x01], Err(2)),
     case("K3, number 3", 2, &[0xFF, 0xF2, 0x50, 0x80, 0x01, 0x20, 0x01], Err(3)),
     case("K3, number 4", 2, &[0xFF, 0xF0, 0x70, 0x80, 0x01, 0x20, 0x01], Err(4)),
+];
+
+/// K6: in E-AC-3 (bsid 11 to 16, which begins byte 5: 58 to 80) the top two bits of byte 2 are strmtyp, so
+/// that C0 is type 3, with substreamid 7 F8. In AC-3 (bsid 0 to 8, 00 to 40) crc1 stands there.
+#[rustfmt::skip]
+pub static K6: [Case; 24] = [
+    case("K6, type 0", 0, &[0x0B, 0x77, 0x00, 0x03, 0x3F, 0x80], Ok([2, 8, 1536, 48000, 6, 0])),
+    case("K6, type 1", 0, &[0x0B, 0x77, 0x40, 0x03, 0x3F, 0x80], Ok([2, 8, 1536, 48000, 6, 0])),
+    case("K6, type 2", 0, &[0x0B, 0x77, 0x80, 0x03, 0x3F, 0x80], Ok([2, 8, 1536, 48000, 6, 0])),
+    case("K6, type 3", 0, &[0x0B, 0x77, 0xC0, 0x03, 0x3F, 0x80], Err(4)),
+    case("K6, type 3, more bytes", 0, &[0x0B, 0x77, 0xC0, 0x03, 0x3F, 0x80, 0x00, 0x00, 0x00], Err(4)),
+    case("K6, type 2, substreamid 7", 0, &[0x0B, 0x77, 0xB8, 0x03, 0x3F, 0x80], Ok([2, 8, 1536, 48000, 6, 0])),
+    case("K6, type 3, substreamid 7", 0, &[0x0B, 0x77, 0xF8, 0x03, 0x3F, 0x80], Err(4)),
+    case("K6, type 3, the longest", 0, &[0x0B, 0x77, 0xC7, 0xFF, 0x3F, 0x80], Err(4)),
+    case("K6, type 3, the shortest", 0, &[0x0B, 0x77, 0xC0, 0x00, 0x3F, 0x80], Err(4)),
+    case("K6, type 1, 22050 Hz", 0, &[0x0B, 0x77, 0x40, 0x03, 0xDF, 0x80], Ok([2, 8, 1536, 22050, 6, 0])),
+    case("K6, type 3, 22050 Hz", 0, &[0x0B, 0x77, 0xC0, 0x03, 0xDF, 0x80], Err(4)),
+    case("K6, type 3, fscod2 3", 0, &[0x0B, 0x77, 0xC0, 0x03, 0xFF, 0x80], Err(4)),
+    case("K6, type 0, fscod2 3", 0, &[0x0B, 0x77, 0x00, 0x03, 0xFF, 0x80], Err(4)),
+    case("K6, type 2, bsid 11", 0, &[0x0B, 0x77, 0x80, 0x03, 0x3F, 0x58], Ok([2, 8, 1536, 48000, 6, 0])),
+    case("K6, type 3, bsid 11", 0, &[0x0B, 0x77, 0xC0, 0x03, 0x3F, 0x58], Err(4)),
+    // The numbers before 4: five bytes, another sync word, bsid 10 and 17.
+    case("K6, number 1", 0, &[0x0B, 0x77, 0xC0, 0x03, 0x3F], Err(1)),
+    case("K6, number 2", 0, &[0x0B, 0x76, 0xC0, 0x03, 0x3F, 0x80], Err(2)),
+    case("K6, number 3, bsid 10", 0, &[0x0B, 0x77, 0xC0, 0x03, 0x3F, 0x50], Err(3)),
+    case("K6, number 3, bsid 17", 0, &[0x0B, 0x77, 0xC0, 0x03, 0x3F, 0x88], Err(3)),
+    // AC-3 reads whatever crc1 is; with bsid 0, 5 and 8; six bytes of it miss the seventh alone.
+    case("K6, AC-3, crc1 C000", 0, &[0x0B, 0x77, 0xC0, 0x00, 0x00, 0x40, 0x40], Ok([1, 128, 1536, 48000, 2, 32000])),
+    case("K6, AC-3, crc1 FFFF", 0, &[0x0B, 0x77, 0xFF, 0xFF, 0x00, 0x40, 0x40], Ok([1, 128, 1536, 48000, 2, 32000])),
+    case("K6, AC-3, bsid 0", 0, &[0x0B, 0x77, 0xC0, 0x00, 0x00, 0x00, 0x40], Ok([1, 128, 1536, 48000, 2, 32000])),
+    case("K6, AC-3, bsid 5", 0, &[0x0B, 0x77, 0xC0, 0x00, 0x00, 0x28, 0x40], Ok([1, 128, 1536, 48000, 2, 32000])),
+    case("K6, AC-3, six bytes", 0, &[0x0B, 0x77, 0xC0, 0x00, 0x00, 0x40], Err(1)),
 ];
 
 /// How many bytes an ADTS head has, or the number that refuses it.
@@ -200,9 +232,9 @@ const fn refused(table: Table, fields: &'static [u32], room: usize, at: u64, say
 }
 
 /// Document 01's heads from their fields; then the order of the refusals (13, 12, the reader's own),
-/// bsid, fields that are left out, and places; at last K3's heads.
+/// bsid, fields that are left out, and places; at last K3's heads, and K6's.
 #[rustfmt::skip]
-pub static WRITES: [Write; 63] = [
+pub static WRITES: [Write; 73] = [
     written(Ac3, &[0x0B77, 0, 0, 0, 8, 0, 2, 0, 0, 0, 0], &[0x0B, 0x77, 0x00, 0x00, 0x00, 0x40, 0x40]),
     written(Ac3, &[0x0B77, 0, 0, 0, 8, 0, 2, 0, 0, 0, 1], &[0x0B, 0x77, 0x00, 0x00, 0x00, 0x40, 0x44]),
     written(Ac3, &[0x0B77, 0, 1, 30, 8, 0, 7, 0, 0, 0, 1], &[0x0B, 0x77, 0x00, 0x00, 0x5E, 0x40, 0xE1]),
@@ -268,4 +300,16 @@ pub static WRITES: [Write; 63] = [
     refused(Adts, &[0xFFE, 0, 0, 0, 1, 4, 0, 2, 0, 0, 0, 0, 9, 0, 1], 10, 3, 2),
     refused(Adts, &[0xFFF, 0, 1, 0, 1, 12, 0, 2, 0, 0, 0, 0, 9, 0, 1], 10, 3, 3),
     refused(Adts, &[0xFFF, 0, 0, 0, 1, 12, 0, 2, 0, 0, 0, 0, 9, 0, 1], 10, 3, 4),
+    // The second field of E-AC-3 is strmtyp: 3 is refused by 4, behind 13, 12, 2 and 3.
+    written(Eac3, &[0x0B77, 2, 7, 3, 0, 0, 3, 7, 1, 16], &[0x0B, 0x77, 0xB8, 0x03, 0x3F, 0x80]),
+    refused(Eac3, &[0x0B77, 3, 0, 3, 0, 0, 3, 7, 1, 16], 9, 3, 4),
+    refused(Eac3, &[0x0B77, 3, 7, 2047, 3, 2, 0, 0, 0, 11], 9, 3, 4),
+    refused(Eac3, &[0x0B77, 4, 0, 3, 0, 0, 3, 7, 1, 16], 9, 3, 13),
+    refused(Eac3, &[0x0B77, 3, 0, 3, 0, 0, 3, 7, 1, 8], 9, 3, 13),
+    refused(Eac3, &[0x0B77, 3, 0, 3, 0, 0, 3, 7, 1, 16], 8, 3, 12),
+    refused(Eac3, &[0x0B78, 3, 0, 3, 0, 0, 3, 7, 1, 16], 9, 3, 2),
+    refused(Eac3, &[0x0B77, 3, 0, 3, 0, 0, 3, 7, 1, 17], 9, 3, 3),
+    // The second of AC-3 is crc1, whatever it begins with.
+    written(Ac3, &[0x0B77, 0xC000, 0, 0, 8, 0, 2, 0, 0, 0, 0], &[0x0B, 0x77, 0xC0, 0x00, 0x00, 0x40, 0x40]),
+    written(Ac3, &[0x0B77, 0xFFFF, 0, 0, 8, 0, 2, 0, 0, 0, 0], &[0x0B, 0x77, 0xFF, 0xFF, 0x00, 0x40, 0x40]),
 ];

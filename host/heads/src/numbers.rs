@@ -1,6 +1,6 @@
 //! The numbers that refuse a call: a second definition, written from document 01's table, from the
-//! sentence below it that gives their order, and from document 02's K3. It asks neither the library
-//! nor the oracle.
+//! sentence below it that gives their order, and from document 02's K3 and K6. It asks neither the
+//! library nor the oracle.
 
 /// The number that refuses a call of `audio_frame_head` whatever the head is: 7, then 12.
 pub fn of_call(code: u32, out_len: usize) -> Option<u32> {
@@ -17,7 +17,8 @@ pub fn of_head(code: u32, head: &[u8]) -> Option<u32> {
     }
 }
 
-/// AC-3 and E-AC-3: 1, 2, 3, 4, then 1 for a seventh byte missing in AC-3.
+/// AC-3 and E-AC-3: 1, 2, 3, 4, then 1 for a seventh byte missing in AC-3. In E-AC-3 two codes are
+/// reserved: strmtyp 3, K6, and fscod2 3.
 fn ac3(head: &[u8]) -> Option<u32> {
     if head.len() < 6 {
         return Some(1);
@@ -29,8 +30,8 @@ fn ac3(head: &[u8]) -> Option<u32> {
         let frmsizecod = field(head, 34, 6);
         fscod == 3 || frmsizecod >= 38
     } else {
-        let fscod2 = field(head, 34, 2);
-        fscod == 3 && fscod2 == 3
+        let (strmtyp, fscod2) = (field(head, 16, 2), field(head, 34, 2));
+        strmtyp == 3 || fscod == 3 && fscod2 == 3
     };
     first(&[
         (2, field(head, 0, 16) != 0x0B77),

@@ -5,15 +5,28 @@
 
 use crate::{cases, numbers, skip};
 use common::samples;
-use oracle::{answers, domain, requested};
+use oracle::domain::{self, Request};
+use oracle::{answers, requested};
 
 /// Which modules gave an answer.
 #[derive(Clone, Copy, Debug, PartialEq)]
 pub enum Side {
     /// Inside the domain of equality: both.
     Inside,
-    /// Outside it: the module as requested alone.
-    Outside,
+    /// Outside it, by that request: the module as requested alone.
+    Outside(Request),
+}
+
+impl Side {
+    pub const NAMES: [&'static str; 3] = ["inside", "outside by K3", "outside by K6"];
+
+    pub fn name(self) -> &'static str {
+        let place = match self {
+            Side::Inside => 0,
+            Side::Outside(request) => 1 + request as usize,
+        };
+        Side::NAMES[place]
+    }
 }
 
 /// The answer to expect, or the number of the refusal, and which modules gave it. None did where a call
@@ -57,7 +70,7 @@ pub fn head(code: u32, head: &[u8]) -> Result<Expected<[u32; 6]>, String> {
 /// The side of a head, by the domain's own definition; none where no module has a reader for the code.
 fn side(code: u32, head: &[u8]) -> Option<Side> {
     answers::syntax(code)?;
-    Some(if domain::is_outside(code, head) { Side::Outside } else { Side::Inside })
+    Some(domain::taken_out(code, head).map_or(Side::Inside, Side::Outside))
 }
 
 /// Inside the domain both modules must say the same.

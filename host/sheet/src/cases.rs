@@ -160,10 +160,16 @@ E                    0     0
 /// frame, since its head would have 11.
 pub const X: [u8; 9] = [0xFF, 0xF0, 0x50, 0x80, 0x01, 0x20, 0x01, 0x00, 0x00];
 
+/// E-AC-3 frames of 8 bytes: of stream type 0, and of type 3, the top two bits of byte 2. The Rust
+/// gives both; by request K6 the second is no frame.
+pub const G: [u8; 8] = [0x0B, 0x77, 0x00, 0x03, 0x3F, 0x80, 0x00, 0x00];
+pub const T: [u8; 8] = [0x0B, 0x77, 0xC0, 0x03, 0x3F, 0x80, 0x00, 0x00];
+
 /// X alone: it is not taken now. F X F F: F was given, since X behind it read; now its seven bytes
 /// are lost, and X's nine, and the next frame has the timestamp. F 00 X F F: F was lost before too,
-/// and the zero byte; now X's nine as well.
-const CHANGED: [Changed; 3] = [
+/// and the zero byte; now X's nine as well. T alone; G T G G, in which G and T are lost, and the
+/// next frame has the timestamp; G G T, where the second G is lost, and one byte of T.
+const CHANGED: [Changed; 6] = [
     (
         &[(b"2\n", 1), (&X, 1)],
         "       1     9  6  2048  44100  2       -                    0
@@ -194,6 +200,37 @@ E                    8     0
         "       1     7  6  1024  44100  2       -                    0
        2     7  6  1024  44100  2       -                 2089
 E                   17     0
+",
+    ),
+    (
+        &[(b"0\n", 1), (&T, 1)],
+        "       1     8  2  1536  48000  6       -                    0
+E                    0     0
+",
+        "E                    0     0\n",
+    ),
+    (
+        &[(b"0\n", 1), (&G, 1), (&T, 1), (&G, 2)],
+        "       1     8  2  1536  48000  6       -                    0
+       2     8  2  1536  48000  6       -                 2880
+       3     8  2  1536  48000  6       -                 5760
+       4     8  2  1536  48000  6       -                 8640
+E                    0     0
+",
+        "       1     8  2  1536  48000  6       -                    0
+       2     8  2  1536  48000  6       -                 2880
+E                   16     0
+",
+    ),
+    (
+        &[(b"0\n", 1), (&G, 2), (&T, 1)],
+        "       1     8  2  1536  48000  6       -                    0
+       2     8  2  1536  48000  6       -                 2880
+       3     8  2  1536  48000  6       -                 5760
+E                    0     0
+",
+        "       1     8  2  1536  48000  6       -                    0
+E                    9     7
 ",
     ),
 ];

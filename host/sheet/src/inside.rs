@@ -2,7 +2,7 @@
 //! equality. A run is one sheet, all pushes from a new splitter on.
 
 use crate::{answers, model, text};
-use oracle::domain::{Asked, Run};
+use oracle::domain::{Left, Run};
 use std::io;
 
 /// The unchanged module's sheet, whole, or its lines up to the payload that left the domain.
@@ -10,8 +10,8 @@ pub struct Inside {
     pub sheet: Vec<u8>,
     /// How many payloads were inside.
     pub payloads: usize,
-    /// Where the domain was left, if it was.
-    pub left: Option<Asked>,
+    /// How the domain was left, if it was.
+    pub left: Option<Left>,
 }
 
 impl Inside {

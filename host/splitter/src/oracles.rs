@@ -6,7 +6,7 @@ use crate::answer::{Answer, Outcome};
 use crate::call::Call;
 use crate::state::State;
 use crate::{model, requested};
-use oracle::domain::{Asked, Run};
+use oracle::domain::{Left, Run};
 
 /// What a call must be answered.
 pub struct Answers {
@@ -14,8 +14,8 @@ pub struct Answers {
     pub requested: Answer,
     /// By the unchanged module, where the run is inside the domain, this call included.
     pub unchanged: Option<Answer>,
-    /// Where the run left the domain, if it is this call that left it.
-    pub left: Option<Asked>,
+    /// How the run left the domain, if it is this call that left it.
+    pub left: Option<Left>,
 }
 
 impl Answers {
@@ -59,7 +59,7 @@ impl Oracles {
 
     /// Tells the domain of a call that is not refused and that the unchanged model has yet to
     /// answer. All that the domain is told is told here.
-    fn judge(&mut self, call: &Call) -> Option<Asked> {
+    fn judge(&mut self, call: &Call) -> Option<Left> {
         let State { code, locked, .. } = self.unchanged.state();
         let pending = self.unchanged.pending_bytes();
         match call {

@@ -80,6 +80,7 @@ fn all_lines() -> Vec<Line> {
     lines.extend(cases::K3.iter().map(case));
     lines.extend(head_lengths());
     lines.extend(cut_head_lengths());
+    lines.extend(cases::K6.iter().map(case));
     lines
 }
 
@@ -108,10 +109,11 @@ fn ac3_heads() -> Vec<Line> {
 }
 
 /// Each fscod with each fscod2 or numblkscod, twice. acmod and lfeon go through all their pairs,
-/// and frmsiz from its least to its greatest.
+/// frmsiz from its least to its greatest, and strmtyp through those that are not reserved.
 fn eac3_heads() -> Vec<Line> {
     let one = |n: u64| {
         let fields = Eac3 {
+            strmtyp: n % 3,
             frmsiz: 2047 * n / 31,
             fscod: n / 4 % 4,
             code2: n % 4,
@@ -124,10 +126,14 @@ fn eac3_heads() -> Vec<Line> {
     (0..32).map(one).collect()
 }
 
-/// Each bsid: AC-3, neither, E-AC-3, neither.
+/// Each bsid: AC-3, neither, E-AC-3, neither. In every other AC-3 head crc1 begins as stream type 3.
 fn bsid_heads() -> Vec<Line> {
     let fields = |bsid| Ac3 { fscod: 1, frmsizecod: 8, bsid, acmod: 7, lfeon: 1 };
-    (0..32).map(|bsid| head(0, fields(bsid).head(rest(bsid)), 8)).collect()
+    let bytes = |bsid| match bsid {
+        11..=16 => samples::with_fields(fields(bsid).head(rest(bsid)), &[(16, 2, bsid % 3)]),
+        _ => fields(bsid).head(rest(bsid)),
+    };
+    (0..32).map(|bsid| head(0, bytes(bsid), 8)).collect()
 }
 
 /// Each bit rate index with each ID and layer; each rate code, padding and mode beside them.

@@ -6,6 +6,15 @@ use crate::answers;
 
 pub mod cases;
 
+/// The requests that took heads out of the domain.
+#[derive(Clone, Copy, Debug, PartialEq)]
+pub enum Request {
+    /// ADTS frames with CRC and several blocks that are shorter than their head.
+    K3,
+    /// E-AC-3 heads of stream type 3.
+    K6,
+}
+
 /// Where document 01's rules ask the reader.
 #[derive(Clone, Copy, Debug, PartialEq)]
 pub enum Asked {
@@ -27,6 +36,13 @@ impl Asked {
     }
 }
 
+/// How a run leaves the domain: the request that took out the head that is met, and where it is met.
+#[derive(Clone, Copy, Debug, PartialEq)]
+pub struct Left {
+    pub request: Request,
+    pub asked: Asked,
+}
+
 /// One run: the calls from a new splitter, or from a state that was set, on. It is inside until a
 /// call asks the reader about a head that is outside, and then outside for good.
 #[derive(Default)]
@@ -39,32 +55,39 @@ impl Run {
         !self.left
     }
 
-    /// A push that is not refused. Says where it leaves the domain, if it is this push that does.
+    /// A push that is not refused. Says how it leaves the domain, if it is this push that does.
     pub fn push(
         &mut self,
         code: u32,
         is_locked: bool,
         pending: &[u8],
         payload: &[u8],
-    ) -> Option<Asked> {
+    ) -> Option<Left> {
         self.leave(|| met_by_push(code, is_locked, pending, payload))
     }
 
     /// A flush that is not refused, as [`Run::push`].
-    pub fn flush(&mut self, code: u32, pending: &[u8]) -> Option<Asked> {
-        self.leave(|| is_outside(code, pending).then_some(Asked::Flush))
+    pub fn flush(&mut self, code: u32, pending: &[u8]) -> Option<Left> {
+        self.leave(|| {
+            let request = taken_out(code, pending)?;
+            Some(Left { request, asked: Asked::Flush })
+        })
     }
 
-    fn leave(&mut self, met: impl Fn() -> Option<Asked>) -> Option<Asked> {
+    fn leave(&mut self, met: impl Fn() -> Option<Left>) -> Option<Left> {
         let met = if self.left { None } else { met() };
         self.left |= met.is_some();
         met
     }
 }
 
-/// True for the heads that a request took out of the domain.
-pub fn is_outside(code: u32, head: &[u8]) -> bool {
-    is_k3(code, head)
+/// The request that took the head out of the domain, if one did.
+pub fn taken_out(code: u32, head: &[u8]) -> Option<Request> {
+    match () {
+        _ if is_k3(code, head) => Some(Request::K3),
+        _ if is_k6(code, head) => Some(Request::K6),
+        _ => None,
+    }
 }
 
 /// K3: ADTS heads that the Rust reads, with CRC, n further blocks, n at least 1, and a frame_length
@@ -80,12 +103,22 @@ fn is_k3(code: u32, head: &[u8]) -> bool {
     has_crc && further_blocks >= 1 && frame_length < 9 + 2 * further_blocks && reads(code, head)
 }
 
+/// K6: E-AC-3 heads that the Rust reads, with strmtyp 3. (A/52 Tables E1.2 and E2.1: strmtyp begins
+/// byte 2, bsid begins byte 5; 11 to 16 is E-AC-3. In AC-3 crc1 stands there.)
+fn is_k6(code: u32, head: &[u8]) -> bool {
+    let (0, &[_, _, b2, _, _, b5, ..]) = (code, head) else {
+        return false;
+    };
+    let (strmtyp, bsid) = (b2 >> 6, b5 >> 3);
+    (11..=16).contains(&bsid) && strmtyp == 3 && reads(code, head)
+}
+
 /// Document 01's rules of push, as far as they ask the reader: the first of these questions that is
 /// about a head outside the domain. Up to it any reader of the two says the same.
-fn met_by_push(code: u32, is_locked: bool, pending: &[u8], payload: &[u8]) -> Option<Asked> {
+fn met_by_push(code: u32, is_locked: bool, pending: &[u8], payload: &[u8]) -> Option<Left> {
     if !is_locked && pending.is_empty() {
-        if is_outside(code, payload) {
-            return Some(Asked::FirstPayload);
+        if let Some(request) = taken_out(code, payload) {
+            return Some(Left { request, asked: Asked::FirstPayload });
         }
         if !reads(code, payload) {
             return None; // Not taken.
@@ -94,8 +127,8 @@ fn met_by_push(code: u32, is_locked: bool, pending: &[u8], payload: &[u8]) -> Op
     let joined = [pending, payload].concat();
     let mut left = &joined[..];
     while left.len() >= need(code) {
-        if is_outside(code, left) {
-            return Some(Asked::Search);
+        if let Some(request) = taken_out(code, left) {
+            return Some(Left { request, asked: Asked::Search });
         }
         let step = match length(code, left) {
             None => 1,
@@ -103,9 +136,11 @@ fn met_by_push(code: u32, is_locked: bool, pending: &[u8], payload: &[u8]) -> Op
             Some(length) => match left.get(length..) {
                 None => return None, // Kept.
                 Some(behind) if behind.len() < need(code) => length,
-                Some(behind) if is_outside(code, behind) => return Some(Asked::SecondHead),
-                Some(behind) if reads(code, behind) => length,
-                Some(_) => 1,
+                Some(behind) => match taken_out(code, behind) {
+                    Some(request) => return Some(Left { request, asked: Asked::SecondHead }),
+                    None if reads(code, behind) => length,
+                    None => 1,
+                },
             },
         };
         left = &left[step..];

@@ -2,9 +2,9 @@
 
 use super::input::{random, Input};
 use super::long::{Maker, SORTS};
-use crate::requested::cases::{F, X};
+use crate::requested::cases::{F, G, T, X};
 use common::random::Random;
-use common::samples::Adts;
+use common::samples::{with_fields, Adts};
 
 /// Lengths of streams, about those of none to three payloads.
 #[rustfmt::skip]
@@ -36,16 +36,28 @@ fn both(make: &Maker, code: u32, len: usize, random: &mut Random) -> [Input; 2] 
     ]
 }
 
-/// Frames of ADTS, one that is outside the domain of equality, and frames again: it begins at each
-/// place about the first payload's end, so that the domain is left in the first or in the second.
+/// Frames, one that is outside the domain of equality, and frames again, in ADTS and in E-AC-3: it
+/// begins at each place about the first payload's end, so that the domain is left in the first or in
+/// the second.
 pub fn outside() -> impl Iterator<Item = Input> {
-    (4_080..=4_105).map(|at| {
-        // As long as is left by frames of seven bytes.
-        let first = first_frame(7 + at % 7);
-        let before = [&first[..], &F.repeat(at / 7 - 1)].concat();
-        let stream = [&before[..], &X, &F.repeat(3)].concat();
-        Input::of_stream(("inputs", OUTSIDE), 2, &stream)
-    })
+    let adts = (4_080..=4_105).map(|at| (2, stream(at, &F, first_frame, &X)));
+    // Its frames have an even number of bytes.
+    let eac3 = (4_080..=4_105).step_by(2).map(|at| (0, stream(at, &G, first_of_eac3, &T)));
+    adts.chain(eac3).map(|(code, stream)| Input::of_stream(("inputs", OUTSIDE), code, &stream))
+}
+
+/// Frames, one of them as long as the others leave, `outside` at that place, and three frames.
+fn stream(at: usize, frame: &[u8], first: fn(usize) -> Vec<u8>, outside: &[u8]) -> Vec<u8> {
+    let len = frame.len();
+    let before = [&first(len + at % len)[..], &frame.repeat(at / len - 1)].concat();
+    [&before[..], outside, &frame.repeat(3)].concat()
+}
+
+/// A frame like G of that length: frmsiz is half of it, less 1.
+fn first_of_eac3(length: usize) -> Vec<u8> {
+    let mut head = [0; 16];
+    head[..G.len()].copy_from_slice(&G);
+    with_fields(head, &[(21, 11, length as u64 / 2 - 1)])[..length].to_vec()
 }
 
 /// A frame like F of that length.

@@ -25,8 +25,8 @@ pub const SORTS: [(&str, Maker); 13] = [
     ("pieces of frames", pieces),
 ];
 
-/// One short ADTS frame in so many is outside the domain of equality. A stream has hundreds of frames,
-/// and should be inside for some payloads, or to its end.
+/// One short frame in so many of E-AC-3 and ADTS is outside the domain of equality. A stream has
+/// hundreds of frames, and should be inside for some payloads, or to its end.
 const OUTSIDE: [u64; 5] = [10, 40, 160, NEVER, NEVER];
 
 /// Streams of undamaged frames.

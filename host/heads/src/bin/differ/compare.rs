@@ -118,8 +118,8 @@ impl fmt::Display for Tally {
             (self.durations, "durations"),
             (self.writes.rewritten, "rewritten"),
             (self.writes.total(), "writes"),
-            (self.sides.outside, "outside the domain"),
-            (self.writes.sides.outside, "writes outside the domain"),
+            (self.sides.outside(), "outside the domain"),
+            (self.writes.sides.outside(), "writes outside the domain"),
         ];
         for (count, name) in more.into_iter().filter(|(count, _)| *count > 0) {
             write!(f, "; {count} {name}")?;

@@ -28,9 +28,10 @@ pub struct Options {
 type Run = fn(&mut Tally, &Options) -> Outcome;
 
 /// Quick ones first, so that a difference shows soon.
-const RUNS: [(&str, Run); 24] = [
-    ("document 01's cases and K3's", runs::document_cases),
+const RUNS: [(&str, Run); 25] = [
+    ("document 01's cases, K3's and K6's", runs::document_cases),
     ("ADTS, frames about the length of their heads", runs::short_adts_frames),
+    ("AC-3 and E-AC-3, every byte 2 and bsid", runs::stream_types),
     ("durations", runs::durations),
     ("codes above 2", runs::other_codes),
     ("heads made to read", runs::good_heads),

@@ -7,7 +7,6 @@ use common::samples::{self, Bytes, KINDS};
 use heads::cases;
 use heads::library::{self, LONGEST_OUT, LONGEST_TAPE, RECORD};
 use heads::writes::Table;
-use oracle::domain;
 
 /// Heads in each of the runs over head lengths and lent lengths.
 const SAMPLES: u32 = 20_000;
@@ -16,7 +15,7 @@ const SAMPLES: u32 = 20_000;
 const RATES: [u32; 12] =
     [8_000, 11_025, 12_000, 16_000, 22_050, 24_000, 32_000, 44_100, 48_000, 64_000, 88_200, 96_000];
 
-/// Document 01's own cases, and K3's: the answer by hand is held against the one that all sides give.
+/// Document 01's own cases, K3's and K6's: the answer by hand is held against the one that all sides give.
 pub fn document_cases(tally: &mut Tally, _: &Options) -> Outcome {
     for case in cases::heads() {
         let answer = tally.agreed(case.code, case.head, RECORD)?;
@@ -68,21 +67,19 @@ pub fn other_codes(tally: &mut Tally, _: &Options) -> Outcome {
     Ok(())
 }
 
-/// Heads made to read: each of them must, as the kind that it was made for. A few of ADTS are outside
-/// the domain: the unchanged Rust reads them, and 6 refuses them.
+/// Heads made to read: each of them must, as the kind that it was made for, and inside the domain.
 pub fn good_heads(tally: &mut Tally, options: &Options) -> Outcome {
     let mut random = Random::new(options.seed);
     for _ in 0..SAMPLES {
         let kind = random.pick(&KINDS);
         let (code, head) = (samples::code_of(kind), samples::good(kind, &mut random));
         let answer = tally.agreed(code, &head, RECORD)?;
-        let made_for = if domain::is_outside(code, &head) { Err(6) } else { Ok(kind) };
-        if answer.map(|six| six[0]) != made_for {
+        if answer.map(|six| six[0]) != Ok(kind) {
             let answers = format!("made as kind {kind}, {}", words(answer));
             return Err(difference(code, &head, &answers));
         }
     }
-    Ok(())
+    outside_are(tally, [0, 0])
 }
 
 /// Good and damaged heads at every lent length: 12 below 24, whatever the head is.
@@ -202,10 +199,15 @@ pub fn short_adts_frames(tally: &mut Tally, _: &Options) -> Outcome {
     // 9 and 10 for n = 1, 9 to 12 for n = 2, 9 to 14 for n = 3; each with two IDs, two rate indices
     // and all other bits in two ways. Those are read with 7 and with 8 bytes, and written once.
     let heads = (2 + 4 + 6) * 2 * 2 * 2;
-    match [tally.sides.outside, tally.writes.sides.outside] {
-        found if found == [2 * heads, heads] => Ok(()),
+    outside_are(tally, [2 * heads, heads])
+}
+
+/// So many heads that were read, and so many that were to be written, must have been outside the domain.
+fn outside_are(tally: &Tally, expected: [u64; 2]) -> Outcome {
+    match [tally.sides.outside(), tally.writes.sides.outside()] {
+        found if found == expected => Ok(()),
         found => Err(Difference(format!(
-            "outside the domain are {found:?} heads, and not twice and once {heads}"
+            "outside the domain are {found:?} heads, read and to be written, and not {expected:?}"
         ))),
     }
 }
@@ -224,6 +226,28 @@ fn chosen_adts(frame_length: u64, rate_code: u64, choice: u64) -> Bytes {
         (54, 2, further_blocks),
     ];
     samples::with_fields(rest, &fields)
+}
+
+/// K6: every byte 2, so every strmtyp, with every bsid and every fscod and fscod2. Each head is read
+/// with a byte too few for E-AC-3, with as many as it needs, and with more; and written by both tables.
+pub fn stream_types(tally: &mut Tally, _: &Options) -> Outcome {
+    for byte_2 in 0..=0xFF {
+        for bsid in 0..32 {
+            for codes in 0..16 {
+                let head = [0x0B, 0x77, byte_2, 0x03, codes << 4, bsid << 3, 0x40, 0x00];
+                for len in [5, 6, 7, 8] {
+                    tally.head(0, &head[..len])?;
+                }
+                for table in [Table::Ac3, Table::Eac3] {
+                    tally.write(table, &table.read(&head), LONGEST_TAPE, 0)?;
+                }
+            }
+        }
+    }
+    // strmtyp 3 with 64 other ends of byte 2, six bsids, and all codes but fscod 3 with fscod2 3. Those
+    // are read with 6, 7 and 8 bytes, and written once: AC-3's table refuses their bsid by 13.
+    let heads = 64 * 6 * 15;
+    outside_are(tally, [3 * heads, heads])
 }
 
 /// Every (byte 2, byte 3) of E-AC-3, so every frmsiz, with each bsid that is E-AC-3.

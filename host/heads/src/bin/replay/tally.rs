@@ -22,13 +22,12 @@ const GROUPS: [(&str, &[&str]); 18] = [
     (NOT_WRITTEN[1], &["2", "3", "4", "12", "13"]),
     (NOT_WRITTEN[2], &["2", "3", "4", "5", "12", "13"]),
     (NOT_WRITTEN[3], &["2", "3", "4", "6", "12", "13"]),
-    ("heads by the domain", SIDES),
-    ("lengths of ADTS heads by the domain", SIDES),
-    ("heads to be written by the domain", SIDES),
+    // Inside the domain the answer is compared with both modules, outside with the one as requested
+    // alone. ADTS heads are outside by K3 alone.
+    ("heads by the domain", &Side::NAMES),
+    ("lengths of ADTS heads by the domain", &[Side::NAMES[0], Side::NAMES[1]]),
+    ("heads to be written by the domain", &Side::NAMES),
 ];
-
-/// Inside the domain the answer is compared with both modules, outside with the one as requested alone.
-const SIDES: &[&str] = &["inside", "outside"];
 
 /// Groups of heads that are not written, by table.
 const NOT_WRITTEN: [&str; 4] = [
@@ -53,7 +52,7 @@ pub fn count(counts: &mut Counts, line: &Line, answer: &Reply) {
     let (group, name) = kind(line, &answer.text);
     counts.add(group, name, 1);
     if let Some(side) = answer.side {
-        counts.add(by_domain(line), SIDES[usize::from(side == Side::Outside)], 1);
+        counts.add(by_domain(line), side.name(), 1);
     }
 }
 

@@ -2,7 +2,7 @@
 
 use common::counts::{self, group};
 use common::feed::Feed;
-use oracle::domain::Asked;
+use oracle::domain::{Asked, Left};
 use sheet::inputs::demo::{self, Demo};
 use sheet::inputs::input::{Input, STREAMS};
 use sheet::inputs::long::SORTS;
@@ -16,7 +16,7 @@ use std::ops::Range;
 /// What must be seen: groups, and what is told apart in each. No sheet flushes, so that none leaves
 /// the domain there.
 #[rustfmt::skip]
-const GROUPS: [(&str, &[&str]); 14] = [
+const GROUPS: [(&str, &[&str]); 15] = [
     ("inputs", &["spelled out", "every first byte, every second byte", edges::ENDS, edges::BEGINNINGS, edges::OUTSIDE]),
     ("inputs handed over", &["whole", "in pieces", "slowly", "as a file"]),
     ("first payloads", &["none", "taken", "not taken", "not taken, but a later one"]),
@@ -30,8 +30,12 @@ const GROUPS: [(&str, &[&str]); 14] = [
     ("frames, stamp", &["absent", "0", "below 2^32", "2^32 or more"]),
     ("sheets, domain", &["inside", "outside from the first payload on", "outside from a later one on"]),
     ("frames, domain", &["inside", "outside"]),
-    ("domain left at", &[Asked::NAMES[0], Asked::NAMES[1], Asked::NAMES[2]]),
+    (LEFT[0], &[Asked::NAMES[0], Asked::NAMES[1], Asked::NAMES[2]]),
+    (LEFT[1], &[Asked::NAMES[0], Asked::NAMES[1], Asked::NAMES[2]]),
 ];
+
+/// By the request that took the head out of the domain.
+const LEFT: [&str; 2] = ["domain left by K3, at", "domain left by K6, at"];
 
 /// How long a frame's line is.
 const LINE: usize = 63;
@@ -139,7 +143,9 @@ impl Counts {
         self.add("sheets, domain", side, 1);
         self.add("frames, domain", "inside", frames_inside as u64);
         self.add("frames, domain", "outside", (frames - frames_inside) as u64);
-        inside.left.iter().for_each(|asked| self.add("domain left at", asked.name(), 1));
+        if let Some(Left { request, asked }) = inside.left {
+            self.add(LEFT[request as usize], asked.name(), 1);
+        }
     }
 
     fn add(&mut self, group: &'static str, name: &str, times: u64) {

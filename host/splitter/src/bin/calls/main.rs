@@ -5,7 +5,7 @@
 //!
 //! In this order: document 01's S1 to S8; its small inputs of numbers 7 to 12; the order of the
 //! numbers; the first of its four wrong turns (the others are S4, S5 and S2); the readings; what
-//! request K3 changed; malformed lines; short streams cut in two and three; streams and states by
+//! requests K3 and K6 changed; malformed lines; short streams cut in two and three; streams and states by
 //! chance. The answers are those of the module as requested. Answers written by hand are held to
 //! them, and inside the domain of equality to the unchanged module's, and nothing is written where
 //! they differ.
@@ -15,7 +15,7 @@ mod changes;
 
 use cases::{Case, CORNERS, NUMBERS, ORDER, READINGS};
 use cases::{LAST_STAMP, STEPS, STEP_BYTES, STEP_HEAD, STEP_START};
-use changes::{Changed, K3};
+use changes::{Changed, ADTS_HEADS, STREAM_TYPES};
 use common::random::Random;
 use common::soup::{stream, Sort};
 use splitter::call::Call;
@@ -62,7 +62,8 @@ fn write(inputs: &str, answers: &str) -> Result<(), String> {
     cases.into_iter().try_for_each(|case| list.case(case))?;
     list.steps()?;
     READINGS.iter().try_for_each(|case| list.case(case))?;
-    K3.iter().try_for_each(|case| list.changed(case))?;
+    let changed = ADTS_HEADS.iter().chain(&STREAM_TYPES);
+    changed.into_iter().try_for_each(|case| list.changed(case))?;
     WAYS.iter().flat_map(|(_, lines)| *lines).for_each(|line| drop(list.ask(line)));
     list.short_streams();
     list.by_chance();

@@ -1,7 +1,7 @@
 //! How many calls of each kind were compared, and what they did.
 
 use common::counts::{self, group};
-use oracle::domain::Asked;
+use oracle::domain::{Asked, Left};
 use splitter::answer::{Answer, Outcome};
 use splitter::call::{Call, Lent};
 use splitter::calls::malformed::WAYS;
@@ -12,7 +12,7 @@ use std::fmt;
 
 /// What must be seen: groups, and what is told apart in each. Calls outside the domain of equality
 /// are compared with the module as requested alone.
-const GROUPS: [(&str, &[&str]); 23] = [
+const GROUPS: [(&str, &[&str]); 24] = [
     ("calls", &["new", "set", "push", "flush", "reset", "unlock", "malformed"]),
     ("new splitters", &["made", "refused 7"]),
     ("pushes", &["taken", "not taken"]),
@@ -35,8 +35,12 @@ const GROUPS: [(&str, &[&str]); 23] = [
     ("calls, domain", SIDES),
     ("pushes made, domain", SIDES),
     ("frames, domain", SIDES),
-    ("domain left at", &Asked::NAMES),
+    (LEFT[0], &Asked::NAMES),
+    (LEFT[1], &Asked::NAMES),
 ];
+
+/// By the request that took the head out of the domain.
+const LEFT: [&str; 2] = ["domain left by K3, at", "domain left by K6, at"];
 
 /// Of the domain.
 const SIDES: &[&str] = &["inside", "outside"];
@@ -82,7 +86,9 @@ impl Counts {
             self.add("pushes made, domain", side);
         }
         self.counts.add("frames, domain", side, answer.rows.len() as u64);
-        left.iter().for_each(|asked| self.add("domain left at", asked.name()));
+        if let Some(Left { request, asked }) = left {
+            self.add(LEFT[*request as usize], asked.name());
+        }
     }
 
     fn push(&mut self, pts: Option<i64>, lent: &Lent, len: usize, before: &State, answer: &Answer) {
