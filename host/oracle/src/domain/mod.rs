@@ -43,6 +43,15 @@ pub struct Left {
     pub asked: Asked,
 }
 
+impl Left {
+    /// Groups of counts, by the request.
+    pub const GROUPS: [&'static str; 2] = ["domain left by K3, at", "domain left by K6, at"];
+
+    pub fn group(self) -> &'static str {
+        Left::GROUPS[self.request as usize]
+    }
+}
+
 /// One run: the calls from a new splitter, or from a state that was set, on. It is inside until a
 /// call asks the reader about a head that is outside, and then outside for good.
 #[derive(Default)]
@@ -83,10 +92,12 @@ impl Run {
 
 /// The request that took the head out of the domain, if one did.
 pub fn taken_out(code: u32, head: &[u8]) -> Option<Request> {
-    match () {
-        _ if is_k3(code, head) => Some(Request::K3),
-        _ if is_k6(code, head) => Some(Request::K6),
-        _ => None,
+    if is_k3(code, head) {
+        Some(Request::K3)
+    } else if is_k6(code, head) {
+        Some(Request::K6)
+    } else {
+        None
     }
 }
 

@@ -30,12 +30,9 @@ const GROUPS: [(&str, &[&str]); 15] = [
     ("frames, stamp", &["absent", "0", "below 2^32", "2^32 or more"]),
     ("sheets, domain", &["inside", "outside from the first payload on", "outside from a later one on"]),
     ("frames, domain", &["inside", "outside"]),
-    (LEFT[0], &[Asked::NAMES[0], Asked::NAMES[1], Asked::NAMES[2]]),
-    (LEFT[1], &[Asked::NAMES[0], Asked::NAMES[1], Asked::NAMES[2]]),
+    (Left::GROUPS[0], &[Asked::NAMES[0], Asked::NAMES[1], Asked::NAMES[2]]),
+    (Left::GROUPS[1], &[Asked::NAMES[0], Asked::NAMES[1], Asked::NAMES[2]]),
 ];
-
-/// By the request that took the head out of the domain.
-const LEFT: [&str; 2] = ["domain left by K3, at", "domain left by K6, at"];
 
 /// How long a frame's line is.
 const LINE: usize = 63;
@@ -143,9 +140,7 @@ impl Counts {
         self.add("sheets, domain", side, 1);
         self.add("frames, domain", "inside", frames_inside as u64);
         self.add("frames, domain", "outside", (frames - frames_inside) as u64);
-        if let Some(Left { request, asked }) = inside.left {
-            self.add(LEFT[request as usize], asked.name(), 1);
-        }
+        inside.left.iter().for_each(|left| self.add(left.group(), left.asked.name(), 1));
     }
 
     fn add(&mut self, group: &'static str, name: &str, times: u64) {

@@ -35,12 +35,9 @@ const GROUPS: [(&str, &[&str]); 24] = [
     ("calls, domain", SIDES),
     ("pushes made, domain", SIDES),
     ("frames, domain", SIDES),
-    (LEFT[0], &Asked::NAMES),
-    (LEFT[1], &Asked::NAMES),
+    (Left::GROUPS[0], &Asked::NAMES),
+    (Left::GROUPS[1], &Asked::NAMES),
 ];
-
-/// By the request that took the head out of the domain.
-const LEFT: [&str; 2] = ["domain left by K3, at", "domain left by K6, at"];
 
 /// Of the domain.
 const SIDES: &[&str] = &["inside", "outside"];
@@ -86,9 +83,7 @@ impl Counts {
             self.add("pushes made, domain", side);
         }
         self.counts.add("frames, domain", side, answer.rows.len() as u64);
-        if let Some(Left { request, asked }) = left {
-            self.add(LEFT[*request as usize], asked.name());
-        }
+        left.iter().for_each(|left| self.add(left.group(), left.asked.name()));
     }
 
     fn push(&mut self, pts: Option<i64>, lent: &Lent, len: usize, before: &State, answer: &Answer) {
