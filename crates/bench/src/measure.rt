@@ -21,7 +21,7 @@ const STREAM_MAX: usize = 1000000;
 const INPUT_MAX: usize = STREAM_MAX + LINE_MAX;
 
 // Enough for each call with payloads of up to 65535 bytes.
-const PENDING_LEN: usize = 8200;
+const PENDING_LEN: usize = 8704;
 
 const OUT_LEN: usize = 73800;
 
@@ -121,7 +121,7 @@ fn round(
         let end = payload_end(at, size, stream.len());
         let pushed = push(splitter, &stream[at..end], pts_at(at), pending, out, rows);
         let answer = pushed.answer;
-        sums = sums.with_push(answer, rows);
+        sums = sums.with_push(answer, rows, out);
         splitter = pushed.splitter;
         at = end;
     }
@@ -163,6 +163,7 @@ fn print(totals: Totals) {
     print_next(totals.discarded);
     print_next(totals.pending as u64);
     print_next(totals.stamps);
+    print_next(totals.last_bytes);
     io::write_all(STDOUT_FILENO, b"\n");
 }
 

@@ -1,5 +1,5 @@
 -- The definitions of AC-3's and E-AC-3's heads from their bytes. Assumes nothing.
-use mathlib.Core.Path.{_≡_, refl, sym, _∙_}
+use mathlib.Core.Path.{_≡_, refl, sym, ap, _∙_}
 use mathlib.Core.Bool.{Bool, true, false, not, cond, _&&_}
 use mathlib.Core.List.{List}
 use Prim.Native.Nat.{ℕ, _≤_, _<_, _+_, _-_, _*_, _/_, _%_, _^_}
@@ -10,13 +10,13 @@ use lib.ListN.{length, getD}
 use lib.Pow.{field, mod-mod-pow}
 use borrow.Author.Tests.{lt-ltb, le-ltb, lt-leb, leb-true, eq-eqb, ne-eqb, eqb-true}
 use Rattle.heads.specs.Bits.{Bytes, number, total}
-use Rattle.heads.specs.Judge.{refuseIf}
+use Rattle.heads.specs.Judge.{refuseIf, isRead}
 use Rattle.heads.specs.declared.fields.Ac3Fields.{Ac3Fields}
 use Rattle.heads.specs.Ac3.{ac3Fields, ac3Judged, acmodOf, ac3TailWidths, cmixlevBits, surmixlevBits, dsurmodBits, mixBits, ac3Read, ac3Words, ac3Kbps, ac3Rates, nfchans}
 use Rattle.heads.specs.Eac3.{eac3Fields, eac3Judged, eac3Read, fscodOf, eac3TailWidths, fscod2Bits, numblkscodBits, eac3Rates, eac3Blocks}
 use Rattle.heads.specs.A52.{a52Head, byBsid, isAc3, isEac3, ac3Syncword}
 use Rattle.heads.proofs.Pack.{both-true}
-use Rattle.heads.proofs.Grounds.{stop, pass}
+use Rattle.heads.proofs.Grounds.{stop, pass, last-reads}
 use Rattle.heads.specs.declared.info.Head.{Head}
 use Rattle.heads.specs.declared.info.Head.the-variants.{Refused}
 use Rattle.heads.specs.declared.info.Refusal.the-variants.{ShortHead, NoSyncWord, ReservedCode}
@@ -64,6 +64,11 @@ low-bit q x r h =
     let of : (y : ℕ) → y % 2 ^ (1 + r) ≡ y % 256 % 2 ^ (1 + r) = λ y. sym (rw k at (mod-mod-pow y (7 - r) (1 + r))) in
     sym (field n 1 r) ∙ (rw (of n, m, ← of x) (field x 1 r))
 
+-- the sync word, then bsid, from the bytes
+abbrev pub a52ByBytes : List ℕ → Head
+a52ByBytes b =
+    refuseIf (not (eqb (getD b 0 0 * 256 + getD b 1 0) ac3Syncword)) NoSyncWord (byBsid b (getD b 5 0 / 8))
+
 module _ (b : List ℕ) (byte : Bytes b) where
   -- the sync word and bsid, in the same bits of both
   pub syncword-is : eac3Fields b .syncword ≡ getD b 0 0 * 256 + getD b 1 0
@@ -74,12 +79,14 @@ module _ (b : List ℕ) (byte : Bytes b) where
   unfolding Bytes number eac3TailWidths
   bsid-is = omega (arith, byte 5)
 
-  -- a head of six bytes and more: the sync word, then bsid
-  pub chosen : (x : Head) → 6 ≤ length b
-      → x ≡ refuseIf (not (eqb (getD b 0 0 * 256 + getD b 1 0) ac3Syncword)) NoSyncWord (byBsid b (getD b 5 0 / 8))
-      → x ≡ a52Head b
+  -- a head of six bytes and more
+  pub chosen : (x : Head) → 6 ≤ length b → x ≡ a52ByBytes b → x ≡ a52Head b
   unfolding a52Head refuseIf
   chosen x p j = rw (le-ltb (length b) 6 p, syncword-is, bsid-is) j
+
+  -- and whether it reads
+  pub chosen-reads : (x : Bool) → 6 ≤ length b → x ≡ isRead (a52ByBytes b) → x ≡ isRead (a52Head b)
+  chosen-reads x p j = j ∙ ap isRead (chosen _ p refl)
 
   -- the fields of E-AC-3 where the widths are known
   frmsiz-is : number 6 b / 2 ^ 16 % 2 ^ 11 ≡ getD b 2 0 % 8 * 256 + getD b 3 0
@@ -111,6 +118,9 @@ module _ (b : List ℕ) (byte : Bytes b) where
   unfolding eac3Judged
   of-no-type h = stop _ _ _ (eq-eqb (eac3Fields b .strmtyp) 3 (strmtyp-is ∙ h))
 
+  pub no-type-reads : getD b 2 0 / 64 ≡ 3 → false ≡ isRead (eac3Judged (eac3Fields b))
+  no-type-reads h = ap isRead (of-no-type h)
+
   -- of the other ones, at a reduced rate, and at a full one
   module _ (typed : getD b 2 0 / 64 ≡ 3 → ⊥) where
     has-type : eqb (eac3Fields b .strmtyp) 3 ≡ false
@@ -133,6 +143,13 @@ module _ (b : List ℕ) (byte : Bytes b) where
     whole x h j =
         let other = ne-eqb (fscodOf (number 6 b)) 3 (λ e. h (sym fscod-is ∙ e)) in
         pass _ _ _ _ has-type (rw (other, other, frmsiz-is, fscod-is, code2-is, acmod-is, lfeon-is) j)
+
+    -- and whether it reads
+    pub halved-reads : getD b 4 0 / 64 ≡ 3 → not (eqb (getD b 4 0 / 16 % 4) 3) ≡ isRead (eac3Judged (eac3Fields b))
+    halved-reads h = last-reads _ _ _ ∙ ap isRead (halved _ h refl)
+
+    pub whole-reads : (getD b 4 0 / 64 ≡ 3 → ⊥) → true ≡ isRead (eac3Judged (eac3Fields b))
+    whole-reads h = ap isRead (whole _ h refl)
 
 -- the fields of AC-3 that are judged, from the bytes
 abbrev pub ac3ByBytes : List ℕ → Ac3Fields
@@ -201,6 +218,11 @@ module _ (b : List ℕ) (byte : Bytes b) where
         dsurmod = f .dsurmod;
         lfeon = sym lfe-is i;
       })
+
+  -- and whether it reads
+  pub judged-reads : (x : Bool) → x ≡ isRead (ac3Judged (length b) (ac3ByBytes b))
+      → x ≡ isRead (ac3Judged (length b) (ac3Fields b))
+  judged-reads x j = j ∙ ap isRead (judged _ refl)
 
 -- a head whose bsid is AC-3's, or E-AC-3's, is judged by its fields alone once its seven or six bytes are there
 pub ac3-by-fields : (b : List ℕ) → Bytes b → 7 ≤ length b → isAc3 (ac3Fields b .bsid) ≡ true

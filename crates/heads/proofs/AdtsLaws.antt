@@ -180,6 +180,11 @@ pub judged : (b : List ℕ) (f : AdtsFields) (x : AdtsHead) → 7 ≤ length b �
     → x ≡ adtsReport b
 judged b f x l e j = j ∙ ap adtsReported e ∙ sym (report-by-fields b l)
 
+-- and its verdict
+pub judged-verdict : (b : List ℕ) (f : AdtsFields) (v : Verdict) → 7 ≤ length b → f ≡ adtsFields b
+    → v ≡ verdictOf (adtsJudged adtsRates f) → v ≡ verdictOf (adtsHead b)
+judged-verdict b f v l e is = is ∙ ap verdictOf (ap (adtsJudged adtsRates) e ∙ sym (by-fields b l))
+
 -- the fields of an accepted head: what they say is the judgement, and they stand in the tables
 module _ (f : AdtsFields) (v : Verdict) (is : v ≡ verdictOf (adtsJudged adtsRates f)) (yes : v ≡ Accepted) where
   -- no ground holds: the sync word is there, and neither layer, rate nor length is turned down

@@ -7,9 +7,10 @@ use lib.Dec.{T, eqb, ltb, leb, eqb→eq}
 use native.Mathlib.Nat.{le-of-suc-le-suc}
 use native.Mathlib.Omega.{arith}
 use Rattle.heads.proofs.Entries.{least, most}
-use borrow.Author.Tests.{lt-ltb, le-ltb, eq-eqb, ne-eqb, le-leb, lt-leb}
-use Rattle.heads.specs.Judge.{refuseIf, verdictOf}
+use borrow.Author.Tests.{lt-ltb, le-ltb, eq-eqb, ne-eqb, le-leb, lt-leb, leb-true, leb-false}
+use Rattle.heads.specs.Judge.{refuseIf, verdictOf, isRead}
 use Rattle.heads.specs.Numbers.{headAnswer}
+use Rattle.heads.specs.declared.info.AudioFrameInfo.{AudioFrameInfo}
 use Rattle.heads.specs.declared.info.Head.{Head}
 use Rattle.heads.specs.declared.info.Head.the-variants.{Read, Refused}
 use Rattle.heads.specs.declared.info.Refusal.{Refusal}
@@ -52,6 +53,46 @@ pub passed : (t : Bool) (ground : Refusal) (rest : Head) → Accepted ≡ verdic
 unfolding refuseIf
 passed true ground rest e = absurd (accepted-not ground e)
 passed false ground rest e = (refl, e)
+
+-- whether a head reads: not where it is refused, and as its verdict says
+pub turned-down : (ground : Refusal) (h : Head) → Refused ground ≡ h → false ≡ isRead h
+turned-down ground h e = ap isRead e
+
+pub accepted-reads : (v : Verdict) (h : Head) → v ≡ verdictOf h → v ≡ Accepted → true ≡ isRead h
+accepted-reads v (Read i) is e = refl
+accepted-reads v (Refused ground) is e = absurd (accepted-not ground (sym e ∙ is))
+
+pub refused-reads : (v : Verdict) (ground : Refusal) (h : Head) → v ≡ verdictOf h → v ≡ Verdict.Refused ground
+    → false ≡ isRead h
+refused-reads v ground h is e = turned-down ground h (refused-on v ground h is e)
+
+-- or ground by ground, and of the last ground its test says it
+pub stop-reads : (t : Bool) (n : Refusal) (rest : Head) → t ≡ true → false ≡ isRead (refuseIf t n rest)
+stop-reads t n rest e = turned-down n (refuseIf t n rest) (stop t n rest e)
+
+pub pass-reads : (t : Bool) (n : Refusal) (x : Bool) (rest : Head) → t ≡ false → x ≡ isRead rest
+    → x ≡ isRead (refuseIf t n rest)
+unfolding refuseIf
+pass-reads t n x rest e p = rw e p
+
+pub last-reads : (t : Bool) (n : Refusal) (i : AudioFrameInfo) → not t ≡ isRead (refuseIf t n (Read i))
+unfolding refuseIf
+last-reads true n i = refl
+last-reads false n i = refl
+
+pub room-reads : (k l : ℕ) (n : Refusal) (i : AudioFrameInfo) → leb k l ≡ isRead (refuseIf (ltb l k) n (Read i))
+room-reads k l n i = go (leb k l) refl ∙ last-reads (ltb l k) n i
+  where
+    go : (t : Bool) → leb k l ≡ t → t ≡ not (ltb l k)
+    go true e = rw (le-ltb l k (leb-true k l e))
+    go false e = rw (lt-ltb l k (leb-false k l e))
+
+-- of a head by cases, the case that the tests chose
+pub yes-reads : (t x : Bool) (a b : Head) → t ≡ true → x ≡ isRead a → x ≡ isRead (cond t a b)
+yes-reads t x a b e p = rw e p
+
+pub no-reads : (t x : Bool) (a b : Head) → t ≡ false → x ≡ isRead b → x ≡ isRead (cond t a b)
+no-reads t x a b e p = rw e p
 
 -- of a value by cases, the case that the tests chose
 pub yes-is : {A : Type 0} (t : Bool) (x a b : A) → t ≡ true → x ≡ a → x ≡ cond t a b
@@ -109,3 +150,5 @@ le-ltb-of a b n e p = le-ltb a b (rw e at p)
 pub ruleset grounds = (stop, pass, yes-is, no-is, differs, agrees, other, at-most, not-at-most, both-hold, first-fails, second-fails, lt-ltb-of, le-ltb-of, least, most, tt, lt-ltb, le-ltb, eq-eqb, ne-eqb, le-leb, lt-leb)
 
 pub ruleset verdicts = (stop-verdict, pass-verdict)
+
+pub ruleset readings = (stop-reads, pass-reads, room-reads, yes-reads, no-reads)

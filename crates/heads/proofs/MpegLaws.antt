@@ -127,6 +127,11 @@ pub judged : (b : List ℕ) (f : MpegFields) (x : Head) → 4 ≤ length b → f
     → x ≡ mpegHead b
 judged b f x l e j = j ∙ ap mpegJudged e ∙ sym (by-fields b l)
 
+-- and its verdict
+pub judged-verdict : (b : List ℕ) (f : MpegFields) (v : Verdict) → 4 ≤ length b → f ≡ mpegFields b
+    → v ≡ verdictOf (mpegJudged f) → v ≡ verdictOf (mpegHead b)
+judged-verdict b f v l e is = is ∙ ap verdictOf (judged b f (mpegJudged f) l e refl)
+
 -- the fields of an accepted head: what they say is the judgement, and they stand in the tables
 module _ (f : MpegFields) (v : Verdict) (is : v ≡ verdictOf (mpegJudged f)) (yes : v ≡ Accepted) where
   -- no ground holds: the sync word is there, and neither layer, bit rate index nor sampling frequency is turned down

@@ -115,6 +115,19 @@ module _ (first low high : ℕ) where
             then,
           ) at (c (k - i) inside)
 
+  -- and the last thirty-two, of which some are known
+  pub silent-last : (b : List ℕ) (at n : ℕ) → 32 ≤ n → n + 1 ≡ length b → n - at < 32 → Silent b at
+      → Clear first low high (take (n - (n - 32)) (drop (n - 32) b)) (take (n + 1 - (n - 32 + 1)) (drop (n - 32 + 1) b))
+      (length (take (n - (n - 32)) (drop (n - 32) b)))
+      → Silent b n
+  silent-last b at n many all near s c k l =
+      let before : n - 32 ≤ at = omega arith in
+      let whole : n - (n - 32) ≡ 32 = omega arith in
+      let next : n + 1 - (n - 32 + 1) ≡ 32 = omega arith in
+      let room : n - 32 + 32 ≤ length b = omega arith in
+      let end : k < n - 32 + 32 = omega arith in
+      silent-block b (n - 32) (n - (n - 32)) (n + 1 - (n - 32 + 1)) whole next room (λ j q. s j (omega arith)) c k end
+
   pub place-none : (b : List ℕ) → length b ≡ 0 → 0 ≡ placeOf first low high b
   place-none [] h = refl
   place-none (p ∷ []) h = refl

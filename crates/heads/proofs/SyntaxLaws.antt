@@ -1,10 +1,12 @@
 -- A head by its syntax, and by its code. Assumes nothing.
 use mathlib.Core.Path.{_≡_, _∙_, ap}
+use mathlib.Core.Bool.{Bool}
 use mathlib.Core.List.{List}
 use Prim.Native.Nat.{ℕ}
+use Rattle.heads.specs.Judge.{isRead}
 use Rattle.heads.specs.A52.{a52Head}
 use Rattle.heads.specs.Mpeg.{mpegHead}
-use Rattle.heads.specs.Adts.{adtsReport, withoutHeader}
+use Rattle.heads.specs.Adts.{adtsHead, adtsReport, withoutHeader}
 use Rattle.heads.specs.Syntax.{headOf, headOfCode, syntaxOf}
 use Rattle.heads.specs.Sync.{placeOf, syncPlace}
 use Rattle.heads.proofs.AdtsLaws.{without}
@@ -29,6 +31,20 @@ module _ (s : AudioSyntax) (b : List ℕ) (x : Head) where
   pub as-adts : s ≡ AacAdts → (r : AdtsHead) → r ≡ adtsReport b → x ≡ withoutHeader r → x ≡ headOf s b
   unfolding headOf
   as-adts e r is h = rw e (h ∙ ap withoutHeader is ∙ without b)
+
+-- and whether it reads
+module _ (s : AudioSyntax) (b : List ℕ) (r : Bool) where
+  pub reads-ac3 : s ≡ Ac3 → r ≡ isRead (a52Head b) → r ≡ isRead (headOf s b)
+  unfolding headOf
+  reads-ac3 e h = rw e h
+
+  pub reads-mpeg : s ≡ MpegAudio → r ≡ isRead (mpegHead b) → r ≡ isRead (headOf s b)
+  unfolding headOf
+  reads-mpeg e h = rw e h
+
+  pub reads-adts : s ≡ AacAdts → r ≡ isRead (adtsHead b) → r ≡ isRead (headOf s b)
+  unfolding headOf
+  reads-adts e h = rw e h
 
 module _ (s : AudioSyntax) (b : List ℕ) (r : ℕ) where
   pub place-ac3 : s ≡ Ac3 → r ≡ placeOf 0x0B 0x77 0x77 b → r ≡ syncPlace s b

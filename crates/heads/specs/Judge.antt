@@ -15,3 +15,8 @@ refuseIf false ground rest = rest
 abbrev pub verdictOf : Head → Verdict
 verdictOf (Read i) = Accepted
 verdictOf (Refused ground) = Verdict.Refused ground
+
+-- whether a head reads
+abbrev pub isRead : Head → Bool
+isRead (Read i) = true
+isRead (Refused ground) = false

@@ -3,6 +3,7 @@ ghost use mathlib.Core.Path.{_≡_};
 ghost use Prim.Native.Nat.{_≤_, _<_, _+_};
 ghost use lib.ListN.{length, getD};
 ghost use Rattle.heads.specs.Numbers.{headAnswer};
+ghost use Rattle.heads.specs.Judge.{isRead};
 ghost use Rattle.heads.specs.Ac3.{ac3Fields, ac3Judged, ac3Words, ac3Kbps, nfchans, cmixlevBits, surmixlevBits, dsurmodBits, mixBits};
 ghost use Rattle.heads.specs.Eac3.{eac3Fields, eac3Judged, eac3Read};
 ghost use Rattle.heads.specs.A52.{a52Head};
@@ -199,6 +200,55 @@ pub fn parse_ac3_frame(b: &[u8]) -> Head
         11..=16 => eac3_frame(b),
         _ => Head::Refused(Refusal::Unsupported),
     }
+}
+
+// Whether the head of an AC-3 or E-AC-3 syncframe reads: the tests alone, without what the fields say.
+pub fn ac3_reads(b: &[u8]) -> bool
+    ensures { λ r. ⌜ r ≡ isRead (a52Head (now (b .entry))) ⌝ }
+{
+    if b.len() < 6 {
+        return false;
+    }
+    if b[0] != AC3_SYNCWORD[0] {
+        return false;
+    }
+    if b[1] != AC3_SYNCWORD[1] {
+        return false;
+    }
+    let bsid: u8 = b[5] >> 3;
+    match bsid {
+        0..=8 => ac3_frame_reads(b),
+        11..=16 => eac3_frame_reads(b),
+        _ => false,
+    }
+}
+
+// AC-3, behind the sync word: the grounds of `ac3_frame`.
+fn ac3_frame_reads(b: &[u8]) -> bool
+    requires { ⌜ 6 ≤ length (now b) ⌝ }
+    ensures { λ r. ⌜ r ≡ isRead (ac3Judged (length (now (b .entry))) (ac3Fields (now (b .entry)))) ⌝ }
+{
+    if b[4] >> 6 == 3 {
+        return false;
+    }
+    if b[4] % 64 >= 38 {
+        return false;
+    }
+    b.len() >= 7
+}
+
+// E-AC-3, behind the sync word: the grounds of `eac3_frame`.
+fn eac3_frame_reads(b: &[u8]) -> bool
+    requires { ⌜ 6 ≤ length (now b) ⌝ }
+    ensures { λ r. ⌜ r ≡ isRead (eac3Judged (eac3Fields (now (b .entry)))) ⌝ }
+{
+    if b[2] >> 6 == 3 {
+        return false;
+    }
+    if b[4] >> 6 != 3 {
+        return true;
+    }
+    (b[4] >> 4) % 4 != 3
 }
 
 // AC-3, Tables 5.1 and 5.2, behind the sync word.

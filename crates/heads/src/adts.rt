@@ -5,8 +5,8 @@ ghost use Prim.Native.Nat.{_≤_, _<_};
 ghost use lib.ListN.{length};
 ghost use Rattle.heads.specs.Bits.{fits};
 ghost use Rattle.heads.specs.Numbers.{adtsAnswer, headAnswer};
-ghost use Rattle.heads.specs.Judge.{verdictOf};
-ghost use Rattle.heads.specs.Adts.{adtsWidths, adtsListed, adtsFields, adtsRates, adtsFacts, adtsJudged, adtsReported, adtsReport, adtsHeaderOf, withoutHeader};
+ghost use Rattle.heads.specs.Judge.{verdictOf, isRead};
+ghost use Rattle.heads.specs.Adts.{adtsWidths, adtsListed, adtsFields, adtsRates, adtsFacts, adtsJudged, adtsReported, adtsReport, adtsHead, adtsHeaderOf, withoutHeader};
 use crate::fields::AdtsFields;
 use crate::info::AudioFrameInfo;
 use crate::info::AudioFrameKind;
@@ -70,6 +70,20 @@ pub fn parse_adts_header(b: &[u8]) -> AdtsHead
         return AdtsHead::Refused(Refusal::ShortHead);
     }
     judge_adts(adts_fields(b))
+}
+
+// Whether an ADTS head reads: the tests alone, without what the fields say.
+pub fn adts_reads(b: &[u8]) -> bool
+    ensures { λ r. ⌜ r ≡ isRead (adtsHead (now (b .entry))) ⌝ }
+{
+    let n = b.len();
+    if n < 7 {
+        return false;
+    }
+    match adts_verdict(adts_fields(b)) {
+        Verdict::Accepted => true,
+        Verdict::Refused(_) => false,
+    }
 }
 
 // Every field of adts_fixed_header and adts_variable_header, in the order of the tables. The bits of the seven bytes,

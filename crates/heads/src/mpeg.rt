@@ -5,7 +5,7 @@ ghost use Prim.Native.Nat.{_≤_, _<_, _*_, _/_};
 ghost use lib.ListN.{length, getD};
 ghost use Rattle.heads.specs.Bits.{fits};
 ghost use Rattle.heads.specs.Numbers.{headAnswer};
-ghost use Rattle.heads.specs.Judge.{verdictOf};
+ghost use Rattle.heads.specs.Judge.{verdictOf, isRead};
 ghost use Rattle.heads.specs.Mpeg.{mpegWidths, mpegListed, mpegFields, InTables, mpegInfo, mpegFacts, mpegJudged, mpegHead, mpegKbps, mpegRate, mpegShape, shapeOf, mpegChannels};
 ghost use Rattle.heads.specs.Chart.{unpaddedOf};
 use crate::fields::MpegFields;
@@ -138,6 +138,20 @@ pub fn parse_mpeg_audio_header(b: &[u8]) -> Head
         return Head::Refused(Refusal::ShortHead);
     }
     judge_mpeg(mpeg_fields(b))
+}
+
+// Whether an MPEG audio head reads: the tests alone, without what the fields say.
+pub fn mpeg_reads(b: &[u8]) -> bool
+    ensures { λ r. ⌜ r ≡ isRead (mpegHead (now (b .entry))) ⌝ }
+{
+    let n = b.len();
+    if n < 4 {
+        return false;
+    }
+    match mpeg_verdict(mpeg_fields(b)) {
+        Verdict::Accepted => true,
+        Verdict::Refused(_) => false,
+    }
 }
 
 // Every field of header(), in the order of the table. The bits of the four bytes, the first byte's first:

@@ -58,9 +58,23 @@ pub fn sync_place(b: &[u8], first: u8, low: u8, high: u8) -> usize
         }
         at += 32;
     }
+    // The last 32 places once more: to go through what is left of a block one by one costs more.
+    if n >= 32 {
+        if n - at < 32 {
+            let last = n - 32;
+            let next = last + 1;
+            let end = n + 1;
+            if !any_begins(&b[last..n], &b[next..end], first, low, high) {
+                return n;
+            }
+        }
+    }
     while at < n {
-        if begins(b[at], b[at + 1], first, low, high) {
-            break;
+        // By itself, since the compiler would ask for the second byte first: for 77 alone, that is as often so as not.
+        if b[at] == first {
+            if begins(b[at], b[at + 1], first, low, high) {
+                break;
+            }
         }
         at += 1;
     }

@@ -1,12 +1,16 @@
 // The three syntaxes, and reading by syntax code.
 ghost use mathlib.Core.Path.{_≡_};
 ghost use Rattle.heads.specs.Numbers.{headAnswer};
+ghost use Rattle.heads.specs.Judge.{isRead};
 ghost use Rattle.heads.specs.Syntax.{syntaxOf, headOf, needOf, headOfCode};
 ghost use Rattle.heads.specs.Sync.{syncPlace};
+use crate::ac3::ac3_reads;
 use crate::ac3::parse_ac3_frame;
+use crate::adts::adts_reads;
 use crate::adts::parse_adts_header;
 use crate::info::Head;
 use crate::info::Refusal;
+use crate::mpeg::mpeg_reads;
 use crate::mpeg::parse_mpeg_audio_header;
 use crate::sync::sync_place;
 
@@ -48,6 +52,18 @@ impl AudioSyntax {
             AudioSyntax::Ac3 => parse_ac3_frame(b),
             AudioSyntax::MpegAudio => parse_mpeg_audio_header(b),
             AudioSyntax::AacAdts => parse_adts_header(b).head(),
+        }
+    }
+
+    // Whether the head at the front of b reads, by the tests alone. A push asks so about a second head: with `parse` it
+    // takes a quarter to a half more time at payloads of 4096 bytes.
+    pub fn reads(self, b: &[u8]) -> bool
+        ensures { λ r. ⌜ r ≡ isRead (headOf self (now (b .entry))) ⌝ }
+    {
+        match self {
+            AudioSyntax::Ac3 => ac3_reads(b),
+            AudioSyntax::MpegAudio => mpeg_reads(b),
+            AudioSyntax::AacAdts => adts_reads(b),
         }
     }
 

@@ -10,7 +10,7 @@ use native.Mathlib.Omega.{arith}
 use native.Mathlib.Numerals.{add-one}
 use lib.IntN.{pos}
 use lib.ListN.{length, take, drop, getD, set, length-append, length-drop, take-append-drop, drop-of-length-le}
-use lib.Seq.{take-append-le, drop-append-le, drop-drop, take-take, length-take-le, drop-cons, set-at, take-suc, getD-append-add, getD-drop, take-at, drop-at, take-all, take-add, take-suc-set, drop-append-add, take-append-add, sets-eq, paste, paste-suc}
+use lib.Seq.{take-append-le, drop-append-le, drop-drop, take-take, length-take-le, drop-cons, set-at, take-suc, getD-append-add, getD-drop, take-at, drop-at, take-all, take-add, drop-append-add, take-append-add, sets-eq}
 use borrow.Rule.Slice.PartMut.{putMid}
 use Rattle.splitter.specs.Push.{over}
 
@@ -42,6 +42,14 @@ module _ {ℓ} {A : Type ℓ} (xs ys : List A) (i : ℕ) where
   -- the first i of xs, written
   pub front-until : i ≤ length xs → front i xs ys ≡ over (take i xs) ys
   front-until h = ap (λ (k : ℕ). take i xs ++ drop k ys) (sym (length-take-le i xs h))
+
+-- one element, written to the front
+pub one-write {ℓ} : {A : Type ℓ} (xs ys : List A) (d : A) → length xs ≡ 1 → 0 < length ys
+    → set ys 0 (getD xs 0 d) ≡ over xs ys
+one-write {A = A} xs ys d one some =
+    front-next xs ys 0 ys d (omega arith) some refl
+    ∙ front-until xs ys 1 (omega arith)
+    ∙ ap (λ (l : List A). over l ys) (take-all 1 xs (omega arith))
 
 -- the next element of a copy down: its place isn't written yet
 pub down-next {ℓ} : {A : Type ℓ} (i from : ℕ) (ys zs : List A) (d : A) → from + i < length ys
@@ -84,50 +92,6 @@ module _ {ℓ} {A : Type ℓ} where
 
   pub over-length : (s ys : List A) → length s ≤ length ys → length (over s ys) ≡ length ys
   over-length s ys h = simp (length-append, length-drop) (omega arith)
-
-  -- the first m of xs were written, and then the last n of xs, from a place among those m on
-  pub last-block : (m at n : ℕ) (xs ys zs : List A) → at ≤ m → m ≤ length xs → length xs ≡ at + n
-      → zs ≡ over (take m xs) ys
-      → take at zs ++ (take n (drop at xs) ++ drop (at + n) zs) ≡ over xs ys
-  last-block m at n xs ys zs a h e z =
-      let l : length (take m xs) ≡ m = length-take-le m xs h in
-      let p : take at zs ≡ take at xs = ap (take at) z ∙ take-append-le at (take m xs) (drop (length (take m xs)) ys)
-      (omega arith) ∙ take-take at m xs a in
-      let q : take n (drop at xs) ≡ drop at xs = take-all n (drop at xs) (simp length-drop (omega arith)) in
-      let k : at + n ≡ length (take m xs) + (at + n - m) = omega arith in
-      let b : length (take m xs) + (at + n - m) ≡ length xs = omega arith in
-      let r : drop (at + n) zs ≡ drop (length xs) ys =
-      ap (drop (at + n)) z
-      ∙ ap (λ (j : ℕ). drop j (over (take m xs) ys)) k
-      ∙ drop-append-add (take m xs) (drop (length (take m xs)) ys) (at + n - m)
-      ∙ drop-drop (at + n - m) (length (take m xs)) ys
-      ∙ ap (λ (j : ℕ). drop j ys) b in
-      rw (p, q, r) (sym (append-assoc (take at xs) (drop at xs) (drop (length xs) ys)) ∙ ap
-      (λ (j : List A). j ++ drop (length xs) ys) (take-append-drop at xs))
-
-  -- a store of the next element of a block, and the whole block
-  pub paste-next : (at k : ℕ) (xs ys zs : List A) (d : A) → at + k < length ys → k < length xs → zs ≡ paste ys at xs k
-      → set zs (at + k) (getD xs k d) ≡ paste ys at xs (k + 1)
-  paste-next at k xs ys zs d hy hx e =
-      ap (λ (l : List A). set l (at + k) (getD xs k d)) e ∙ rw add-one (paste-suc ys at xs k d hy hx)
-
-  pub paste-all : (at n : ℕ) (xs ys : List A) → length xs ≡ n
-      → paste ys at xs n ≡ take at ys ++ (xs ++ drop (at + n) ys)
-  paste-all at n xs ys e =
-      append-assoc (take at ys) (take n xs) (drop (at + n) ys)
-      ∙ ap (λ (l : List A). take at ys ++ (l ++ drop (at + n) ys)) (take-all n xs (omega arith))
-
--- one more byte of a part that is read from a place on
-pub part-next {ℓ} : {A : Type ℓ} (at k : ℕ) (xs zs : List A) (d : A) → at + k < length xs → k < length zs
-    → take k zs ≡ take k (drop at xs)
-    → take (k + 1) (set zs k (getD xs (at + k) d)) ≡ take (k + 1) (drop at xs)
-part-next {A = A} at k xs zs d hx hz e =
-    let l : k < length (drop at xs) = simp length-drop (omega arith) in
-    rw add-one
-    (take-suc-set zs k (getD xs (at + k) d) hz
-    ∙ ap (λ (a : A). take k zs ++ (a ∷ [])) (sym (getD-drop at xs k d))
-    ∙ ap (λ (z : List A). z ++ (getD (drop at xs) k d ∷ [])) e
-    ∙ sym (take-suc (drop at xs) k d l))
 
 -- ---- parts that come back
 

@@ -1,8 +1,8 @@
 -- The head at a place of the joined bytes, from the bytes that the code hands to the reader; and a run of places with
 -- no head. Assumes nothing.
-use mathlib.Core.Path.{_≡_, sym, _∙_, ap, subst}
+use mathlib.Core.Path.{_≡_, refl, sym, _∙_, ap, subst}
 use mathlib.Core.Logic.{_⊎_, inl, inr}
-use mathlib.Core.Bool.{true, false, and-false}
+use mathlib.Core.Bool.{Bool, true, false, not, and-false}
 use mathlib.Core.List.{List, _++_}
 use Prim.Native.Nat.{ℕ, zero, suc, _+_, _-_, _≤_, _<_, min}
 use native.Mathlib.Omega.{arith}
@@ -12,15 +12,18 @@ use lib.ListN.{length, take, drop, length-append, length-drop, take-append-drop}
 use lib.Seq.{take-all, take-at, take-take, length-take-le, drop-drop}
 use borrow.Author.Tests.{le-leb, lt-leb}
 use Rattle.heads.specs.Bits.{Bytes}
+use Rattle.heads.specs.Judge.{isRead}
 use Rattle.heads.specs.Promise.{Unread}
 use Rattle.heads.specs.Sync.{syncPlace}
 use Rattle.heads.specs.Syntax.{headOf, needOf}
 use Rattle.heads.proofs.Promise.{agree, added, need-least, need-most, skipped, skipped-room, skipped-most}
 use Rattle.heads.proofs.Bytes.{bytes-join, bytes-take, bytes-drop}
 use Rattle.heads.specs.declared.info.AudioFrameInfo.{AudioFrameInfo}
+use Rattle.heads.specs.declared.info.Head.{Head}
 use Rattle.heads.specs.declared.info.Head.the-variants.{Read, Refused}
 use Rattle.heads.specs.declared.info.Refusal.{Refusal}
 use Rattle.heads.specs.declared.syntax.AudioSyntax.{AudioSyntax}
+use Rattle.splitter.specs.Cut.{unread}
 use Rattle.splitter.specs.Push.{over}
 use Rattle.splitter.specs.Search.{noHead}
 use Rattle.splitter.specs.Steps.{UnreadRun}
@@ -70,6 +73,10 @@ module _ (x : AudioSyntax) (p : ℕ) (pend pay : List ℕ) (hp : p ≤ length pe
 
 -- ---- what follows a frame
 
+not-read : (h : Head) → not (isRead h) ≡ unread h
+not-read (Read i) = refl
+not-read (Refused g) = refl
+
 module _ (x : AudioSyntax) (J : List ℕ) (end : ℕ) where
   pub no-room : length J - end < needOf x → false ≡ noHead x J end
   no-room l = rw (lt-leb (needOf x) (length J - end) l)
@@ -79,6 +86,10 @@ module _ (x : AudioSyntax) (J : List ℕ) (end : ℕ) where
 
   pub none-there : needOf x ≤ length J - end → (g : Refusal) → headOf x (drop end J) ≡ Refused g → true ≡ noHead x J end
   none-there l g e = rw (e, le-leb (needOf x) (length J - end) l)
+
+  -- r says whether the head there reads
+  pub told-there : needOf x ≤ length J - end → (r : Bool) → r ≡ isRead (headOf x (drop end J)) → not r ≡ noHead x J end
+  told-there l r e = rw (e, le-leb (needOf x) (length J - end) l) (not-read (headOf x (drop end J)))
 
 -- ---- a run of places with no head
 

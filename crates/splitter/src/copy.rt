@@ -6,59 +6,30 @@ ghost use Prim.Native.Nat.{_+_, _≤_};
 ghost use lib.ListN.{length, take, drop};
 ghost use Rattle.splitter.specs.Push.{over};
 
-// Copies the first n bytes of src to the front of dst.
-fn copy_count(dst: &mut [u8], src: &[u8], n: usize)
-    requires { ⌜ (n ≤ length (now src)) × (n ≤ length (now dst)) ⌝ }
-    ensures { λ _. ⌜ now (dst .exit) ≡ over (take n (now (src .entry))) (now (dst .entry)) ⌝ }
+// Copies all of src to the front of dst. Where it is put in line, the plain loop becomes a block copy; with the last
+// bytes in a step of their own a push takes up to a tenth longer at payloads of 4096 bytes.
+pub fn copy_front(dst: &mut [u8], src: &[u8])
+    requires { ⌜ length (now src) ≤ length (now dst) ⌝ }
+    ensures { λ _. ⌜ now (dst .exit) ≡ over (now (src .entry)) (now (dst .entry)) ⌝ }
 {
     let mut i = 0;
-    while i < n {
+    while i < src.len() {
         dst[i] = src[i];
         i += 1;
     }
 }
 
-// The 32 bytes of src from a place on.
-fn block_at(src: &[u8], at: usize) -> [u8; 32]
-    requires { ⌜ at + 32 ≤ length (now src) ⌝ }
-    ensures { λ r. ⌜ r ≡ take 32 (drop at (now (src .entry))) ⌝ }
-{
-    let mut block = [0u8; 32];
-    let mut k = 0;
-    while k < 32 {
-        block[k] = src[at + k];
-        k += 1;
-    }
-    block
-}
-
-// Writes 32 bytes to dst from a place on.
-fn put_block(dst: &mut [u8], at: usize, block: [u8; 32])
-    requires { ⌜ at + 32 ≤ length (now dst) ⌝ }
-    ensures { λ _. ⌜ now (dst .exit) ≡ take at (now (dst .entry)) ++ (block ++ drop (at + 32) (now (dst .entry))) ⌝ }
-{
-    let mut k = 0;
-    while k < 32 {
-        dst[at + k] = block[k];
-        k += 1;
-    }
-}
-
-// Copies all of src to the front of dst: whole blocks of 32, then the last 32 bytes once more, since a loop over what
-// is left of a block costs more than both.
-pub fn copy_front(dst: &mut [u8], src: &[u8])
+// The same of what may well be one byte, which is stored: to call a block copy for it takes a tenth to a quarter of a
+// push. To ask for it where frames are copied makes those slower.
+pub fn copy_few(dst: &mut [u8], src: &[u8])
     requires { ⌜ length (now src) ≤ length (now dst) ⌝ }
     ensures { λ _. ⌜ now (dst .exit) ≡ over (now (src .entry)) (now (dst .entry)) ⌝ }
 {
-    let n = src.len();
-    if n < 32 {
-        copy_count(dst, src, n);
+    if src.len() == 1 {
+        dst[0] = src[0];
         return;
     }
-    copy_count(dst, src, n - n % 32);
-    let at = n - 32;
-    let block = block_at(src, at);
-    put_block(dst, at, block);
+    copy_front(dst, src);
 }
 
 // Copies n bytes of buf down from a place to the front; the two parts may overlap.
@@ -124,12 +95,12 @@ pub fn keep_tail(pending: &mut [u8], carried: usize, payload: &[u8], from: usize
 {
     if carried <= from {
         let a = from - carried;
-        copy_front(pending, &payload[a..]);
+        copy_few(pending, &payload[a..]);
         return;
     }
     let k = carried - from;
     if from != 0 {
         copy_down(pending, from, k);
     }
-    copy_front(&mut pending[k..], payload);
+    copy_few(&mut pending[k..], payload);
 }

@@ -1,5 +1,6 @@
 // Reading heads at the places of J, the joined bytes: the first `carried` of the pending buffer, then the payload.
-use crate::copy::copy_frame;
+use crate::copy::copy_few;
+use crate::copy::copy_front;
 use heads::AudioSyntax;
 use heads::Head;
 ghost use mathlib.Core.Path.{_≡_};
@@ -48,12 +49,16 @@ fn gathered_head(
     payload: &[u8],
     at: usize,
 ) -> Head
-    requires { ⌜ (carried ≤ length (now pending)) × (at < carried) ⌝ }
+    requires { ⌜ (carried ≤ length (now pending)) × (at < carried) × (carried < at + 8) ⌝ }
     ensures { λ r. ⌜ r ≡ headOf syntax (drop at (take carried (now (pending .entry)) ++ now (payload .entry))) ⌝ }
 {
     let n = least(carried - at + payload.len(), HEAD_MAX);
     let mut window = [0u8; HEAD_MAX];
-    copy_frame(&mut window, pending, carried, payload, at, n);
+    let k = carried - at;
+    let e = n - k;
+    // Not by copy_frame: with one caller that is put in line, and its copies become block copies.
+    copy_front(&mut window, &pending[at..carried]);
+    copy_few(&mut window[k..], &payload[..e]);
     syntax.parse(&window[..n])
 }
 
@@ -71,6 +76,11 @@ pub fn false_sync(
 {
     if carried + payload.len() - end < need {
         return false;
+    }
+    // Tests alone, no facts: whether a head in the payload reads is told without the record of what it says.
+    if carried <= end {
+        let a = end - carried;
+        return !syntax.reads(&payload[a..]);
     }
     match head_at(syntax, pending, carried, payload, end) {
         Head::Read(_) => false,

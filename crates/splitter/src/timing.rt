@@ -126,6 +126,31 @@ pub fn flushed(timing: Timing, info: AudioFrameInfo) -> Flushing
     Flushing { pts, timing: kept }
 }
 
+impl Pts {
+    // The same, made anew. The bytes between the mark and the number are not carried on: a copy of them is a load of what
+    // two shorter stores have not finished yet, and stalls the loop.
+    fn afresh(self) -> Pts
+        ensures { λ r. ⌜ r ≡ self ⌝ }
+    {
+        match self {
+            Pts::At(t) => Pts::At(t),
+            Pts::Absent => Pts::Absent,
+        }
+    }
+}
+
+impl Anchored {
+    // The same, made anew, without the bytes between the mark and the anchor.
+    fn afresh(self) -> Anchored
+        ensures { λ r. ⌜ r ≡ self ⌝ }
+    {
+        match self {
+            Anchored::To(a) => Anchored::To(a),
+            Anchored::Free => Anchored::Free,
+        }
+    }
+}
+
 impl Anchor {
     // The stamp of the next frame with that geometry.
     fn stamp(self, geometry: Geometry) -> i64
@@ -152,6 +177,18 @@ impl Timing {
         }
     }
 
+    // The same, both enums made anew.
+    pub fn afresh(self) -> Timing
+        ensures { λ r. ⌜ r ≡ self ⌝ }
+    {
+        let pts = self.residual_pts;
+        let held = self.anchor;
+        Timing {
+            residual_pts: pts.afresh(),
+            anchor: held.afresh(),
+        }
+    }
+
     // Nothing is pending any more.
     pub fn emptied(self) -> Timing
         ensures { λ r. ⌜ r ≡ emptied self ⌝ }
@@ -172,6 +209,18 @@ impl Clock {
         Clock {
             new_pts: pts,
             timing,
+        }
+    }
+
+    // The same, all three enums made anew.
+    pub fn afresh(self) -> Clock
+        ensures { λ r. ⌜ r ≡ self ⌝ }
+    {
+        let new_pts = self.new_pts;
+        let timing = self.timing;
+        Clock {
+            new_pts: new_pts.afresh(),
+            timing: timing.afresh(),
         }
     }
 

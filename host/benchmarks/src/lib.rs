@@ -1,4 +1,4 @@
-//! The streams of the benchmarks.
+//! The streams of the benchmarks, and their median.
 
 use common::random::Random;
 use common::samples::{Ac3, Adts, Bytes, Eac3, Mpeg};
@@ -80,4 +80,9 @@ fn without_head(name: &'static str, code: u32) -> Stream {
         }
     }
     Stream { name, code, bytes }
+}
+
+pub fn median(mut numbers: Vec<f64>) -> f64 {
+    numbers.sort_by(f64::total_cmp);
+    numbers[numbers.len() / 2]
 }

@@ -2,6 +2,7 @@
 //! same rows: one goes from the end of the list, the other, the second definition, through all of it.
 //! One process, the same lists, by turns.
 
+use benchmarks::median;
 use cuecalls::returned;
 use cues::cases;
 use cues::cue::{cue, MARK, STAMP, WIDTH};
@@ -64,11 +65,6 @@ fn round(find: Finder, list: &[i64], time: i64) -> f64 {
         black_box(find(black_box(list), black_box(time)));
     }
     start.elapsed().as_secs_f64() * 1e9 / calls as f64
-}
-
-fn median(mut rounds: Vec<f64>) -> f64 {
-    rounds.sort_by(f64::total_cmp);
-    rounds[rounds.len() / 2]
 }
 
 /// As a careful Rust programmer would write it.

@@ -1,7 +1,7 @@
 //! The program `cutsheet` beside the Rust's, from start to end: megabytes a second over the same
 //! long streams, and the most memory that each has. Their sheets must be the same.
 
-use benchmarks::{streams, Stream};
+use benchmarks::{median, streams, Stream};
 use common::asking::verdict;
 use sheet::cases::F;
 use std::error::Error;
@@ -14,8 +14,9 @@ use std::time::{Duration, Instant};
 const USAGE: &str = "usage: bench_sheet [PROGRAM [ARG..]]
   PROGRAM   the program to measure beside the Rust; without it the Rust alone";
 
-/// Runs of which the median counts.
-const ROUNDS: usize = 5;
+/// How often the programs run in turn. What counts is the median: of the rates, and of the ratios of
+/// those that ran in one turn.
+const TURNS: usize = 15;
 
 /// Where the streams and the sheets go.
 const INPUT: &str = "target/host/sheet-bench.bin";
@@ -116,48 +117,54 @@ impl Work {
 }
 
 fn speeds(programs: &[Program]) -> Result<(), Box<dyn Error>> {
-    println!("MB/s, medians of {ROUNDS}, to a file once; ratios: the first column by each other");
+    println!("MB/s, medians of {TURNS}, to a file once; ratios: the first column by each other");
     print!("{:<18}{:>4}  {:<10}", "stream", "MB", "from, to");
     programs.iter().for_each(|program| print!("{:>14}", program.name));
     println!("   ratios");
     for work in works() {
         work.write(File::create(INPUT)?)?;
-        row(&work, "file, null", &medians(programs, &work, Source::File)?);
-        row(&work, "pipe, null", &medians(programs, &work, Source::Pipe)?);
+        row(&work, "file, null", &in_turn(programs, &work, Source::File)?);
+        row(&work, "pipe, null", &in_turn(programs, &work, Source::Pipe)?);
         row(&work, "file, file", &to_files(programs, &work)?);
     }
     Ok(())
 }
 
-fn row(work: &Work, name: &str, times: &[Duration]) {
+/// The times of each program, in the order of the turns.
+fn row(work: &Work, name: &str, times: &[Vec<f64>]) {
     let bytes = work.len() as f64;
     print!("{:<18}{:>4.0}  {name:<10}", work.name, bytes / 1e6);
-    times.iter().for_each(|time| print!("{:>14.0}", bytes / time.as_secs_f64() / 1e6));
+    for times in times {
+        print!("{:>14.0}", bytes / median(times.clone()) / 1e6);
+    }
     print!("  ");
-    let ratios = times[1..].iter().map(|time| time.as_secs_f64() / times[0].as_secs_f64());
-    ratios.for_each(|ratio| print!("{ratio:>7.2}"));
+    for others in &times[1..] {
+        let ratios = others.iter().zip(&times[0]).map(|(other, first)| other / first);
+        print!("{:>7.2}", median(ratios.collect()));
+    }
     println!();
 }
 
 /// Of each program, the output thrown away.
-fn medians(programs: &[Program], work: &Work, source: Source) -> io::Result<Vec<Duration>> {
+fn in_turn(programs: &[Program], work: &Work, source: Source) -> io::Result<Vec<Vec<f64>>> {
     let mut times = vec![Vec::new(); programs.len()];
-    for _ in 0..ROUNDS {
+    for _ in 0..TURNS {
         // In turn, so that a change of the processor's clock or load meets all.
         for (program, times) in programs.iter().zip(&mut times) {
-            times.push(time(program, work, source, Stdio::null())?);
+            times.push(time(program, work, source, Stdio::null())?.as_secs_f64());
         }
     }
-    times.iter_mut().for_each(|times| times.sort());
-    Ok(times.iter().map(|times| times[ROUNDS / 2]).collect())
+    Ok(times)
 }
 
 /// Of each program once, the output to a file. All files must be the same.
-fn to_files(programs: &[Program], work: &Work) -> Result<Vec<Duration>, Box<dyn Error>> {
+fn to_files(programs: &[Program], work: &Work) -> Result<Vec<Vec<f64>>, Box<dyn Error>> {
     let mut times = Vec::new();
     for (n, program) in programs.iter().enumerate() {
         let file = if n == 0 { SHEET } else { OTHER_SHEET };
-        times.push(time(program, work, Source::File, File::create(file)?.into())?);
+        times.push(vec![
+            time(program, work, Source::File, File::create(file)?.into())?.as_secs_f64()
+        ]);
         if n > 0 && fs::read(SHEET)? != fs::read(OTHER_SHEET)? {
             return Err(format!("{}: {SHEET} is not {OTHER_SHEET}", work.name).into());
         }

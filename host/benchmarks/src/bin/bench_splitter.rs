@@ -3,11 +3,12 @@
 //!
 //! The program reads a line `CODE SIZE ROUNDS` and then the stream up to the end of its input. ROUNDS
 //! times it makes a new splitter, locked, and pushes the whole stream in payloads of SIZE bytes, the
-//! last one shorter; the first has timestamp 0, the others none. It prints one line of five
-//! numbers: frames, output bytes and bytes discarded of all rounds, bytes pending at the end, and the
-//! sum of all stamps of all rounds modulo 2^64.
+//! last one shorter; the first has timestamp 0, the others none. It prints one line of six numbers:
+//! frames, output bytes and bytes discarded of all rounds, bytes pending at the end, and, of all
+//! rounds modulo 2^64, the sum of all stamps and the sum of the frames' last bytes, so that the
+//! copies are read.
 
-use benchmarks::{streams, Stream};
+use benchmarks::{median, streams, Stream};
 use common::asking::verdict;
 use oracle::answers;
 use oracle::audio_frame::{AudioFrameSplitter, Parts};
@@ -17,18 +18,23 @@ use std::io::{self, BufRead, Read, Write};
 use std::process::{Command, ExitCode, Stdio};
 use std::time::{Duration, Instant};
 
-const USAGE: &str = "usage: bench_splitter [PROGRAM [ARG..]]
+const USAGE: &str =
+    "usage: bench_splitter [--only TEXT] [--before PROGRAM] [--peer PROGRAM] [PROGRAM]
        bench_splitter --program
-  PROGRAM     the program to measure beside the Rust; without it the Rust alone
-  --program   is such a program itself, with the Rust's splitter";
+  PROGRAM           the program to measure beside the Rust; without it the Rust alone
+  --before PROGRAM  another such program beside both, as one of before a change
+  --peer PROGRAM    one that reads the same and prints a line, whose sums are its own
+  --only TEXT       lines whose stream or payload size has this text alone
+  --program         is such a program itself, with the Rust's splitter";
 
 /// Payload sizes, and how much of a stream is pushed: at one byte each, a part of it is enough.
 const SIZES: [(usize, usize); 4] =
     [(65_535, usize::MAX), (4_096, usize::MAX), (184, usize::MAX), (1, 100_000)];
 
-/// Measurements of which the best counts, and the least time that they should take.
-const REPEATS: u32 = 5;
-const LEAST: Duration = Duration::from_millis(100);
+/// How often the programs are measured in turn, and the least time that a measurement should take.
+/// What counts is the median: of the rates, and of the ratios of those measured in one turn.
+const TURNS: usize = 15;
+const LEAST: Duration = Duration::from_millis(60);
 
 /// One line of the table: what is pushed in payloads of which size.
 struct Row<'a> {
@@ -36,6 +42,13 @@ struct Row<'a> {
     code: u32,
     bytes: &'a [u8],
     size: usize,
+}
+
+/// A program that is measured, and whether its sums must be the Rust's.
+struct Program {
+    title: &'static str,
+    command: Vec<String>,
+    as_rust: bool,
 }
 
 /// What the pushes of a number of rounds gave.
@@ -46,97 +59,113 @@ struct Sums {
     discarded: u64,
     pending: u64,
     stamps: u64,
+    last_bytes: u64,
 }
 
 fn main() -> ExitCode {
     let arguments: Vec<String> = std::env::args().skip(1).collect();
-    verdict(match arguments.first().map(String::as_str) {
-        Some("--program") => be_the_program(),
-        Some(flag) if flag.starts_with('-') => {
+    if arguments == ["--program"] {
+        return verdict(be_the_program());
+    }
+    match asked(arguments) {
+        Some((programs, only)) => verdict(table(&programs, &only)),
+        None => {
             eprintln!("{USAGE}");
-            return ExitCode::from(2);
+            ExitCode::from(2)
         }
-        _ => table(&arguments),
-    })
+    }
 }
 
-/// The table, of the program that `ours` names, or of the Rust alone where it is empty.
-fn table(ours: &[String]) -> Result<(), Box<dyn Error>> {
-    let this = std::env::current_exe()?.to_string_lossy().into_owned();
-    let rust = [this, "--program".into()];
-    println!("GB/s, best of {REPEATS}; ratio: ours divided by the Rust's as a program");
-    println!("stream              payload      ours      Rust     ratio   Rust in this process");
+/// The programs to measure, ours first, and the text that a line must have.
+fn asked(arguments: Vec<String>) -> Option<(Vec<Program>, String)> {
+    let this = std::env::current_exe().ok()?.to_string_lossy().into_owned();
+    let rust = Program { title: "Rust", command: vec![this, "--program".into()], as_rust: true };
+    let (mut programs, mut only) = (vec![rust], String::new());
+    let mut words = arguments.into_iter();
+    while let Some(word) = words.next() {
+        match word.as_str() {
+            "--only" => only = words.next()?,
+            "--before" => programs.push(Program::new("before", words.next()?, true)),
+            "--peer" => programs.push(Program::new("peer", words.next()?, false)),
+            flag if flag.starts_with('-') => return None,
+            _ => programs.insert(0, Program::new("ours", word, true)),
+        }
+    }
+    Some((programs, only))
+}
+
+/// The table. Ratios are those of the first program to each of the others.
+fn table(programs: &[Program], only: &str) -> Result<(), Box<dyn Error>> {
+    println!("GB/s, and ratios of {} to the others: medians of {TURNS} turns", programs[0].title);
+    print!("{:<18}{:>9}", "stream", "payload");
+    programs.iter().for_each(|program| print!("{:>10}", program.title));
+    programs[1..].iter().for_each(|program| print!("{:>10}", format!("/{}", program.title)));
+    println!();
     for Stream { name, code, bytes } in streams() {
         for (size, most) in SIZES {
+            if !format!("{name}, payload {size};").contains(only) {
+                continue;
+            }
             let row = Row { name, code, bytes: &bytes[..most.min(bytes.len())], size };
-            let (programs, in_process) = (rates(ours, &rust, &row)?, rust_rate(&row));
-            println!("{name:<18}{size:>9}{programs}{in_process:>10.4}");
+            println!("{name:<18}{size:>9}{}", measured(programs, &row)?);
         }
     }
     Ok(())
 }
 
-/// Ours, the Rust's measured in the same way, and the ratio, as text.
-fn rates(ours: &[String], rust: &[String], row: &Row) -> Result<String, Box<dyn Error>> {
-    if ours.is_empty() {
-        return Ok(format!("{:>10}{:>10}{:>10}", "-", "-", "-"));
-    }
+/// The line's numbers, as text.
+fn measured(programs: &[Program], row: &Row) -> Result<String, Box<dyn Error>> {
     let expected = push_all(row.code, row.bytes, row.size);
-    let commands = [ours, rust];
-    let more = [rounds(ours, row, expected)?, rounds(rust, row, expected)?];
-    let [mut few, mut many] = [[Duration::MAX; 2]; 2];
-    for _ in 0..REPEATS {
-        // In turn, so that a change of the processor's clock or load meets both.
-        for (i, command) in commands.into_iter().enumerate() {
-            few[i] = few[i].min(run(command, row, 1, expected)?);
-            many[i] = many[i].min(run(command, row, 1 + more[i], expected)?);
+    let more: Result<Vec<u64>, _> = programs.iter().map(|p| rounds(p, row, expected)).collect();
+    let more = more?;
+    let mut rates = vec![Vec::new(); programs.len()];
+    for _ in 0..TURNS {
+        // In turn, so that a change of the processor's clock or load meets all.
+        for (i, program) in programs.iter().enumerate() {
+            // Starting the program and reading the stream do not count.
+            let few = run(program, row, 1, expected)?;
+            let time = run(program, row, 1 + more[i], expected)?.saturating_sub(few);
+            rates[i].push(row.bytes.len() as f64 * more[i] as f64 / time.as_secs_f64() / 1e9);
         }
     }
-    let [ours, rust] = [0, 1].map(|i| {
-        // Starting the program and reading the stream do not count.
-        let time = many[i].saturating_sub(few[i]);
-        row.bytes.len() as f64 * more[i] as f64 / time.as_secs_f64() / 1e9
-    });
-    Ok(format!("{ours:>10.4}{rust:>10.4}{:>10.2}", ours / rust))
+    let mut text = String::new();
+    rates.iter().for_each(|of| text += &format!("{:>10.4}", median(of.clone())));
+    for other in &rates[1..] {
+        let ratios = rates[0].iter().zip(other).map(|(ours, other)| ours / other);
+        text += &format!("{:>10.2}", median(ratios.collect()));
+    }
+    Ok(text)
 }
 
 /// So many rounds beside the first that they take long enough to be measured.
-fn rounds(command: &[String], row: &Row, expected: Sums) -> Result<u64, Box<dyn Error>> {
+fn rounds(program: &Program, row: &Row, expected: Sums) -> Result<u64, Box<dyn Error>> {
     let mut more = 1;
     loop {
-        let few = run(command, row, 1, expected)?;
-        if run(command, row, 1 + more, expected)?.saturating_sub(few) >= LEAST {
+        let few = run(program, row, 1, expected)?;
+        if run(program, row, 1 + more, expected)?.saturating_sub(few) >= LEAST {
             return Ok(more);
         }
-        more *= 4;
+        more *= 2;
     }
 }
 
-/// Gigabytes a second of the Rust in this process, the best round.
-fn rust_rate(row: &Row) -> f64 {
-    let mut best = Duration::MAX;
-    let start = Instant::now();
-    let mut repeats = 0;
-    while repeats < REPEATS || start.elapsed() < LEAST {
-        let round = Instant::now();
-        black_box(push_all(row.code, black_box(row.bytes), row.size));
-        best = best.min(round.elapsed());
-        repeats += 1;
+impl Program {
+    fn new(title: &'static str, name: String, as_rust: bool) -> Program {
+        Program { title, command: vec![name], as_rust }
     }
-    row.bytes.len() as f64 / best.as_secs_f64() / 1e9
 }
 
 /// Runs the program once. What it prints must be the Rust's sums of one round, so many times.
 fn run(
-    command: &[String],
+    program: &Program,
     row: &Row,
     rounds: u64,
     expected: Sums,
 ) -> Result<Duration, Box<dyn Error>> {
     let start = Instant::now();
-    let mut program = Command::new(&command[0]);
-    program.args(&command[1..]).stdin(Stdio::piped()).stdout(Stdio::piped());
-    let mut child = program.spawn()?;
+    let mut command = Command::new(&program.command[0]);
+    command.args(&program.command[1..]).stdin(Stdio::piped()).stdout(Stdio::piped());
+    let mut child = command.spawn()?;
     let mut input = child.stdin.take().expect("a pipe");
     writeln!(input, "{} {} {rounds}", row.code, row.size)?;
     input.write_all(row.bytes)?;
@@ -144,7 +173,8 @@ fn run(
     let output = child.wait_with_output()?;
     let time = start.elapsed();
     let expected = expected.times(rounds).line();
-    if output.status.success() && output.stdout == expected.as_bytes() {
+    let right = !program.as_rust || output.stdout == expected.as_bytes();
+    if output.status.success() && right {
         return Ok(time);
     }
     let asked = format!("{}, payloads of {}, {rounds} rounds", row.name, row.size);
@@ -161,12 +191,13 @@ impl Sums {
             discarded: self.discarded * rounds,
             pending: self.pending,
             stamps: self.stamps.wrapping_mul(rounds),
+            last_bytes: self.last_bytes.wrapping_mul(rounds),
         }
     }
 
     fn line(self) -> String {
-        let Sums { frames, bytes, discarded, pending, stamps } = self;
-        format!("{frames} {bytes} {discarded} {pending} {stamps}\n")
+        let Sums { frames, bytes, discarded, pending, stamps, last_bytes } = self;
+        format!("{frames} {bytes} {discarded} {pending} {stamps} {last_bytes}\n")
     }
 }
 
@@ -187,6 +218,7 @@ fn push_all(code: u32, stream: &[u8], size: usize) -> Sums {
             sums.frames += 1;
             sums.bytes += frame.data.len() as u64;
             sums.stamps = sums.stamps.wrapping_add(frame.pts.unwrap_or(0) as u64);
+            sums.last_bytes += u64::from(frame.data.last().copied().unwrap_or(0));
         }
     }
     sums.discarded = splitter.discarded_bytes();
@@ -210,6 +242,7 @@ fn be_the_program() -> Result<(), Box<dyn Error>> {
         sums.discarded += round.discarded;
         sums.pending = round.pending;
         sums.stamps = sums.stamps.wrapping_add(round.stamps);
+        sums.last_bytes = sums.last_bytes.wrapping_add(round.last_bytes);
     }
     print!("{}", sums.line());
     Ok(())

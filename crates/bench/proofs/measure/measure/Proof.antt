@@ -9,7 +9,7 @@ use Rattle.bench.proofs.measure.measure.Tie as tie
 
 abbrev Inv-loop : tie.InvT-loop
 Inv-loop stream first size rounds pending₀ out₀ rows₀ totals₀ counter₀ pending out rows totals counter =
-    (length pending ≡ 8200) × (length out ≡ 73800) × (length rows ≡ rowWidth * 10535)
+    (length pending ≡ 8704) × (length out ≡ 73800) × (length rows ≡ rowWidth * 10535)
 
 abbrev μ-loop : tie.MeasureT-loop
 μ-loop stream first size rounds pending₀ out₀ rows₀ totals₀ counter₀ pending out rows totals counter = rounds - counter

@@ -1,83 +1,71 @@
--- The whole blocks reach past the place of the last 32 bytes, so that these, written once more, complete the copy.
-use mathlib.Core.Path.{_∙_, ap}
-use mathlib.Core.List.{List, _++_}
-use Prim.Native.Nat.{ℕ, _+_, _-_, _%_}
+-- After i turns the first i bytes of src stand at the front of dst, and behind them what dst held.
+use mathlib.Core.Path.{_≡_, refl, _∙_, ap}
+use mathlib.Core.List.{List}
+use Prim.Native.Nat.{ℕ, _-_, _≤_}
 use native.Mathlib.Omega.{arith}
-use lib.ListN.{length, take, drop}
+use lib.ListN.{length, length-set}
 use lib.Seq.{take-length}
 use denote.Ref.{now}
 use Rattle.splitter.specs.Push.{over}
-use Rattle.splitter.proofs.Buffers.{last-block}
-use borrow.Author.Needs.{needs}
+use Rattle.splitter.proofs.Buffers.{front, front-next, front-until}
 use Rattle.splitter.proofs.copy.copy_front.Statement.{statement}
 use Rattle.splitter.proofs.copy.copy_front.Tie as tie
 
--- ---- the states by name
+abbrev Inv-loop : tie.InvT-loop
+Inv-loop dst₀ src i₀ dst i = (i ≤ length src) × (dst ≡ front i src dst₀) × (length dst ≡ length dst₀)
 
-abbrev few : tie.After-copy-count → tie.Start
-few c = c .before .before .before .before .before
+abbrev μ-loop : tie.MeasureT-loop
+μ-loop dst₀ src i₀ dst i = length src - i
 
-abbrev many : tie.After-copy-count2 → tie.Start
-many c = c .before .before .before .before .before
+loop-holds : tie.Need-loop-holds Inv-loop μ-loop
+loop-holds c = (omega arith, refl, refl)
 
-abbrev counted : tie.After-block-at → tie.After-copy-count2
-counted c = c .before .before .before
+shared-slice-read-dst : tie.Need-shared-slice-read-dst Inv-loop μ-loop
+shared-slice-read-dst c = omega arith
 
-abbrev read : tie.After-put-block → tie.After-block-at
-read c = c .before .before
+slice-write-dst : tie.Need-slice-write-dst Inv-loop μ-loop
+slice-write-dst c = omega arith
 
--- ---- the needs
+add-i : tie.Need-add-i Inv-loop μ-loop
+add-i c = omega arith
 
-copy-count-requires : tie.Need-copy-count-requires
-copy-count-requires c κs = search needs
+loop-less : tie.Need-loop-less Inv-loop μ-loop
+loop-less c = omega arith
 
-same-length : tie.Need-same-length
-same-length c = search needs
+loop-again : tie.Need-loop-again Inv-loop μ-loop
+loop-again c =
+    let h = c .before .before in (
+      omega arith,
+      front-next (now (h .before .args .src)) (now (h .before .args .dst)) (h .loop .i) (h .loop .dst) 0 (omega arith)
+          (omega arith) (h .loop .inv .1),
+      simp length-set (omega arith),
+    )
 
-returns : tie.Need-returns
+same-length : tie.Need-same-length Inv-loop μ-loop
+same-length c = omega arith
+
+returns : tie.Need-returns Inv-loop μ-loop
 returns c =
-    let k = c .before .before in
-    let a = few k .args in
-    k .copy-count .ensures ∙ ap (λ (l : List ℕ). over l (now (a .dst))) (take-length (now (a .src)))
-
-sub-copy-count : tie.Need-sub-copy-count
-sub-copy-count c = search needs
-
-copy-count-requires-2 : tie.Need-copy-count-requires-2
-copy-count-requires-2 c κs = search needs
-
-block-at-requires : tie.Need-block-at-requires
-block-at-requires c κs = search needs
-
-put-block-requires : tie.Need-put-block-requires
-put-block-requires c κs = search needs
-
-same-length-2 : tie.Need-same-length-2
-same-length-2 c = search needs
-
-returns-2 : tie.Need-returns-2
-returns-2 c =
-    let w = c .before .before in
-    let r = read w in
-    let x = counted r .copy-count2 in
-    let a = many (counted r) .args in
-    let z = x .last .0 in
-    let n = length (now (a .src)) in
-    w .put-block .ensures
-    ∙ ap (λ (l : List ℕ). take (n - 32) z ++ (l ++ drop (n - 32 + 32) z)) (r .block-at .ensures)
-    ∙ last-block (n - n % 32) (n - 32) 32 (now (a .src)) (now (a .dst)) z (omega arith) (omega arith) (omega arith)
-    (x .ensures)
+    let h = c .before in
+    let s = now (h .before .args .src) in
+    let d = now (h .before .args .dst) in
+    let e : h .loop .i ≡ length s = omega arith in
+    h .loop .inv .1
+    ∙ ap (λ (k : ℕ). front k s d) e
+    ∙ front-until s d (length s) (omega arith)
+    ∙ ap (λ (l : List ℕ). over l d) (take-length s)
 
 pub copy-front-spec : {M : Type 1} → statement M
 copy-front-spec =
     tie.close
     (tie.spec
-    copy-count-requires
+    Inv-loop
+    μ-loop
+    loop-holds
+    shared-slice-read-dst
+    slice-write-dst
+    add-i
+    loop-less
+    loop-again
     same-length
-    returns
-    sub-copy-count
-    copy-count-requires-2
-    block-at-requires
-    put-block-requires
-    same-length-2
-    returns-2)
+    returns)

@@ -16,28 +16,28 @@ use Rattle.splitter.proofs.copy.keep_tail.Tie as tie
 
 -- ---- the states by name
 
-abbrev high : tie.After-copy-front → tie.Start
+abbrev high : tie.After-copy-few → tie.Start
 high c = c .before .before .before .before .before .before
 
 abbrev start : tie.Joined2 → tie.Start
 start c = c .before .before .before .before
 
-abbrev moved : tie.After-copy-front2 → tie.Joined2
+abbrev moved : tie.After-copy-few2 → tie.Joined2
 moved c = c .before .before
 
 -- ---- the needs
 
-sub-copy-front : tie.Need-sub-copy-front
-sub-copy-front c = search needs
+sub-copy-few : tie.Need-sub-copy-few
+sub-copy-few c = search needs
 
-part-copy-front-start : tie.Need-part-copy-front-start
-part-copy-front-start c = search needs
+part-copy-few-start : tie.Need-part-copy-few-start
+part-copy-few-start c = search needs
 
-part-copy-front-end : tie.Need-part-copy-front-end
-part-copy-front-end c = search needs
+part-copy-few-end : tie.Need-part-copy-few-end
+part-copy-few-end c = search needs
 
-copy-front-requires : tie.Need-copy-front-requires
-copy-front-requires c κs = search needs
+copy-few-requires : tie.Need-copy-few-requires
+copy-few-requires c κs = search needs
 
 same-length : tie.Need-same-length
 same-length c = search needs
@@ -50,7 +50,7 @@ returns c =
     let a = s .args .from - p in
     let q = now (s .args .payload) in
     let d = now (s .args .pending) in
-    k .copy-front .ensures
+    k .copy-few .ensures
     ∙ ap (λ (l : List ℕ). over l d)
     (take-all (length q - a) (drop a q) (simp length-drop (omega arith)) ∙ sym
     (joined-high p d q (s .pre .0) (s .args .from) (omega arith)))
@@ -81,21 +81,21 @@ as-long c =
     ap length (stands c)
     ∙ over-length (take k d) (now (s .args .pending)) (simp (length-take, length-drop) (omega arith))
 
-sub-copy-front-2 : tie.Need-sub-copy-front-2
-sub-copy-front-2 c =
+sub-copy-few-2 : tie.Need-sub-copy-few-2
+sub-copy-few-2 c =
     let l = as-long c in
     omega arith
 
-part-copy-front-start-2 : tie.Need-part-copy-front-start-2
-part-copy-front-start-2 c =
+part-copy-few-start-2 : tie.Need-part-copy-few-start-2
+part-copy-few-start-2 c =
     let l = as-long c in
     omega arith
 
-part-copy-front-end-2 : tie.Need-part-copy-front-end-2
-part-copy-front-end-2 c = search needs
+part-copy-few-end-2 : tie.Need-part-copy-few-end-2
+part-copy-few-end-2 c = search needs
 
-copy-front-requires-2 : tie.Need-copy-front-requires-2
-copy-front-requires-2 c κs =
+copy-few-requires-2 : tie.Need-copy-few-requires-2
+copy-few-requires-2 c κs =
     let l = as-long (c .before) in
     simp (length-take, length-drop) (omega arith)
 
@@ -115,26 +115,26 @@ returns-2 c =
     let q = now (s .args .payload) in
     let l = as-long j in
     let k = p - f in
-    two-writes k (take k (drop f d)) q d (j .if2 .pending) (w .copy-front2 .last .0)
+    two-writes k (take k (drop f d)) q d (j .if2 .pending) (w .copy-few2 .last .0)
     (length-take-le k (drop f d) (simp length-drop (omega arith)))
-    (omega arith) (stands j) (w .copy-front2 .ensures)
+    (omega arith) (stands j) (w .copy-few2 .ensures)
     ∙ ap (λ (z : List ℕ). over z d) (sym (joined-low p d q (s .pre .0) f (omega arith)))
 
 pub keep-tail-spec : {M : Type 1} → statement M
 keep-tail-spec =
     tie.close
     (tie.spec
-    sub-copy-front
-    part-copy-front-start
-    part-copy-front-end
-    copy-front-requires
+    sub-copy-few
+    part-copy-few-start
+    part-copy-few-end
+    copy-few-requires
     same-length
     returns
     sub-k
     copy-down-requires
-    sub-copy-front-2
-    part-copy-front-start-2
-    part-copy-front-end-2
-    copy-front-requires-2
+    sub-copy-few-2
+    part-copy-few-start-2
+    part-copy-few-end-2
+    copy-few-requires-2
     same-length-2
     returns-2)

@@ -43,6 +43,9 @@ push-taken-requires c κs =
 enum-known-answer : tie.Need-enum-known-answer
 enum-known-answer c = search needs
 
+afresh-requires : tie.Need-afresh-requires
+afresh-requires c κs = search needs
+
 same-length : tie.Need-same-length
 same-length c = search needs
 
@@ -62,10 +65,11 @@ returns c =
 
 returns-2 : tie.Need-returns-2
 returns-2 c =
-    let k = c .before in
+    let k = c .before .before in
     let h = k .before .before in
-    sym (push-closed (start h .args .self) (given (start h)) (h .enter .result) (h .enter .ensures)
-    (k .answer .given .0 .0) (k .answer .given .1))
+    rw (c .afresh .ensures)
+    (sym (push-closed (start h .args .self) (given (start h)) (h .enter .result) (h .enter .ensures)
+    (k .answer .given .0 .0) (k .answer .given .1)))
 
 pub push-spec : {M : Type 1} → statement M
 push-spec =
@@ -75,6 +79,7 @@ push-spec =
     enum-known-syntax
     push-taken-requires
     enum-known-answer
+    afresh-requires
     same-length
     same-length-2
     same-length-3

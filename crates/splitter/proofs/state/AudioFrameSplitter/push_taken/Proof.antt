@@ -66,8 +66,8 @@ copied c = c .before .before
 abbrev next : tie.After-slice-known3 Inv-loop μ-loop → tie.After-next Inv-loop μ-loop
 next c = stamping (stamped (copied c .before) .before)
 
-abbrev written : tie.After-clock2 Inv-loop μ-loop → tie.After-write-row Inv-loop μ-loop
-written c = c .before .before
+abbrev written : tie.After-afresh Inv-loop μ-loop → tie.After-write-row Inv-loop μ-loop
+written c = c .before .before .before
 
 -- the rest is kept
 abbrev ending : tie.After-keep-tail-arg Inv-loop μ-loop → tie.At-match-keys2 Inv-loop μ-loop
@@ -209,6 +209,9 @@ write-row-requires c κs =
       length-most (from (found d) .args .syntax) _ _ (framed d .0),
     )
 
+afresh-requires : tie.Need-afresh-requires Inv-loop μ-loop
+afresh-requires c κs = search needs
+
 give-requires-2 : tie.Need-give-requires-2 Inv-loop μ-loop
 give-requires-2 c κs =
     let d = next (written c .before .before) in
@@ -239,7 +242,7 @@ loop-again c =
     let rows = at (found d) .loop .rows in
     let n = rowWidth * found d .search .result .walk .rows in
     let free : List ℤ = take (length rows - n) (drop n rows) in
-    rw (c .give2 .ensures, g)
+    rw (c .give2 .ensures, c .before .afresh .ensures, g)
     (going-given (going (found d)) (info d) (framed d) (k .copy-frame .ensures)
     (w .write-row .ensures ∙ ap (λ (x : Stamped). over (rowBy (info d) (x .pts)) free) g))
 
@@ -301,6 +304,7 @@ push-taken-spec =
     part-write-row-start
     part-write-row-end
     write-row-requires
+    afresh-requires
     give-requires-2
     loop-less
     loop-again

@@ -17,8 +17,11 @@ use Rattle.splitter.proofs.state.AudioFrameSplitter.settle.Tie as tie
 abbrev start : tie.After-last → tie.Start
 start c = c .before .before .before
 
-abbrev ended : tie.After-either → tie.At-match-came
-ended c = c .before .before
+abbrev renewed : tie.After-either → tie.After-afresh
+renewed c = c .before .before
+
+abbrev ended : tie.After-afresh → tie.At-match-came
+ended c = c .before
 
 sub-left : tie.Need-sub-left
 sub-left c = search needs
@@ -35,23 +38,27 @@ keep-requires c κs =
 keep-tail-requires : tie.Need-keep-tail-requires
 keep-tail-requires c κs = search needs
 
+afresh-requires : tie.Need-afresh-requires
+afresh-requires c κs = search needs
+
 either-requires : tie.Need-either-requires
 either-requires c κs = search needs
 
-add-t17 : tie.Need-add-t17
-add-t17 c = search needs
+add-t18 : tie.Need-add-t18
+add-t18 c = search needs
 
 returns : tie.Need-returns
 unfolding settled
 returns c =
-    let m = ended (c .before) in
+    let a = renewed (c .before) in
+    let m = ended a in
     let s = m .before .before .args in
     let e : Option AudioFrameInfo → Timing = λ l. endTiming l (ltb (s .walk .place) (s .self .pending))
     (s .total - s .walk .place) (s .clock) in
-    let t : m .match .timing ≡ e (keptOf (s .last)) =
+    let t : m .match .kept ≡ e (keptOf (s .last)) =
     ⊎-elim (λ w. w .4 ∙ w .3 .ensures ∙ sym (ap (λ (l : Next). e (keptOf l)) (w .1 .given .1)))
     (λ w. w .2 ∙ w .1 .ensures ∙ sym (ap e (nothing-kept (s .last) (w .0 .keys2)))) (m .match .came) in
-    rw (c .before .either .ensures, t)
+    rw (c .before .either .ensures, a .afresh .ensures, t)
 
 pub settle-spec : {M : Type 1} → statement M
 settle-spec =
@@ -61,6 +68,7 @@ settle-spec =
     enum-known-last
     keep-requires
     keep-tail-requires
+    afresh-requires
     either-requires
-    add-t17
+    add-t18
     returns)
