@@ -20,7 +20,8 @@ const STREAM_MAX: usize = 1000000;
 
 const INPUT_MAX: usize = STREAM_MAX + LINE_MAX;
 
-// Enough for each call with payloads of up to 65535 bytes.
+// Enough for each call with payloads of up to 65535 bytes. With 8200 the output, which lies behind it, would begin a few
+// bytes more than a multiple of 4096 further on, and block copies from one to the other take six times as long.
 const PENDING_LEN: usize = 8704;
 
 const OUT_LEN: usize = 73800;

@@ -103,6 +103,7 @@ impl CutSheet {
         if text.len() < LINE_LEN * (bytes / FRAME_MIN) {
             return self.refused(SplitterRefusal::Buffer);
         }
+        // The one call of push in a program that makes sheets: with a second one it is not put in line, and slower.
         let pushed = splitter.push(payload, pts, pending, out, rows);
         let answer = pushed.answer;
         let after = pushed.splitter;
