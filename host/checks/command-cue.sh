@@ -2,7 +2,7 @@
 # Sourced by host/checks/command: the command ./cue. What all commands have to do alike is tried for
 # it too, by the parts of host/checks/command and command-builds.sh.
 
-cue_parts=(clock order wrong_times misuse manual files stamps corner_stamps falling silence ends
+cue_parts=(clock order wrong_times misuse manual files stamps corner_stamps rates silence ends
   unfinished broken losses_told causes_told tags_told films_told names_told both_programs signals)
 
 # The command as it has to be typed.
@@ -312,25 +312,30 @@ part_corner_stamps() {
   [ "$unstamped" -gt 2 ] || fail "every corner has a stamp"
 }
 
-# Streams of two rates, one behind the other. Where the slow one comes first, stamps fall back: then
-# the line that stands last is not that of the latest stamp. Where it comes last, they leave a gap.
-part_falling() {
-  local slow=$demo/adts-8000-mono-16k.aac times
+# Streams of two rates, one behind the other. Whichever comes first, the times go on from one to the
+# other (K7): no stamp falls back, and at the tick before a stamp the frame before it still sounds.
+# But the last frame of the fast one is cut off: before the slow one it is kept at the payload's end,
+# counted, and lost, which leaves a gap.
+part_rates() {
+  local slow=$demo/adts-8000-mono-16k.aac name times
   head -c 4000 "$aac" >fast
-  cat "$slow" fast >falls.aac
-  cat fast "$slow" >leaps.aac
-  "$folder/cutsheet" 2 falls.aac >falls.sheet 2>/dev/null
-  awk 'length($0) == 62 { if ($8 < last) fell = 1; last = $8 } END { exit !fell }' falls.sheet ||
-    fail "no stamp falls"
-  mapfile -t times < <(awk 'length($0) == 62 { print $8; print $8 + 1 }' falls.sheet)
-  [ ${#times[@]} -gt 32 ] || fail "too few stamps"
-  found "stamps that fall" 2 falls.aac "${times[@]:0:32}"
-  found "stamps that fall" 2 falls.aac "${times[@]: -32}"
-  mapfile -t times < <(
-    "$folder/cutsheet" 2 leaps.aac 2>/dev/null | awk 'length($0) == 62 && $8 > 0 { print $8 - 1 }'
-  )
-  found "stamps with a gap" 2 leaps.aac "${times[@]: -32}"
-  grep -q 'is over' words || fail "there is no gap"
+  cat "$slow" fast >slow-first.aac
+  cat fast "$slow" >fast-first.aac
+  for name in slow-first fast-first; do
+    "$folder/cutsheet" 2 "$name.aac" >rates.sheet 2>/dev/null
+    awk 'length($0) == 62 { rates += $5 != rate; rate = $5; if ($8 < last) fell = 1; last = $8 }
+      END { exit rates != 2 || fell }' rates.sheet || fail "not two rates, or a stamp falls"
+    mapfile -t times < <(awk 'length($0) == 62 { print $8; print $8 + 1 }' rates.sheet)
+    [ ${#times[@]} -gt 32 ] || fail "too few stamps"
+    found "stamps of two rates, $name" 2 "$name.aac" "${times[@]:0:32}"
+    found "stamps of two rates, $name" 2 "$name.aac" "${times[@]: -32}"
+    mapfile -t times < <(awk 'length($0) == 62 && $8 > 0 { print $8 - 1 }' rates.sheet)
+    found "the ticks before them, $name" 2 "$name.aac" "${times[@]: -32}"
+    case $name in
+      slow-first) ! grep -q 'is over' words || fail "there is a gap" ;;
+      fast-first) grep -q 'is over' words || fail "there is no gap" ;;
+    esac
+  done
 }
 
 # ---- no frame sounds

@@ -1,7 +1,7 @@
 //! Writes two modules that `src/` includes: the Rust module, unchanged, and the module as requested,
-//! which is the same text with the edits of `requested/` made in the order of their names. Each has
-//! `parts.rs` behind it. The module's own text and its licence must be the published ones, by their
-//! checksums.
+//! which is the same text with the edits of `requested/` made in the order of their names, and
+//! `requested/stamping.rs` behind it. Each has `parts.rs` at its end, with what that asks of its text.
+//! The module's own text and its licence must be the published ones, by their checksums.
 //!
 //! AUDIO_FRAME_RS may name the text at another place, from the repository's root.
 
@@ -11,6 +11,8 @@ use std::{env, fs};
 
 const TEXT: &str = "audio_frame.rs";
 const PARTS: &str = "parts.rs";
+const UNMARKED: &str = "unmarked.rs";
+const STAMPING: &str = "requested/stamping.rs";
 const SUMS: &str = "SHA256SUMS";
 const REQUESTED: &str = "requested";
 
@@ -36,16 +38,15 @@ fn write_modules() -> Result<(), String> {
     check_sums(&folder, &text)?;
     let unchanged = read(&text)?;
     let requested = edited(&unchanged, &folder.join(REQUESTED))?;
-    let parts = folder.join(PARTS);
-    write_module("audio_frame.rs", &unchanged, &parts)?;
-    write_module("requested.rs", &requested, &parts)
+    write_module("audio_frame.rs", &unchanged, &[UNMARKED, PARTS].map(|file| folder.join(file)))?;
+    write_module("requested.rs", &requested, &[STAMPING, PARTS].map(|file| folder.join(file)))
 }
 
-/// Writes a public module of that text, with the parts behind it. The text's lines keep their
+/// Writes a public module of that text, with the files behind it. The text's lines keep their
 /// numbers, and a warning about it is nobody's.
-fn write_module(file: &str, text: &str, parts: &Path) -> Result<(), String> {
-    let module =
-        format!("#[allow(warnings)] pub mod audio_frame {{ {text}\ninclude!({parts:?});\n}}\n");
+fn write_module(file: &str, text: &str, behind: &[PathBuf]) -> Result<(), String> {
+    let behind: String = behind.iter().map(|path| format!("include!({path:?});\n")).collect();
+    let module = format!("#[allow(warnings)] pub mod audio_frame {{ {text}\n{behind}}}\n");
     let out = Path::new(&variable("OUT_DIR")?).join(file);
     fs::write(&out, module).map_err(|error| format!("{}: {error}", out.display()))
 }
@@ -64,14 +65,22 @@ fn edited(text: &str, folder: &Path) -> Result<String, String> {
     })
 }
 
-/// The text with one edit made: words about it, then the lines behind the line `OLD`, in whose place
-/// those behind the line `NEW` are put. The old ones must stand in the text exactly once.
+/// The text with one edit made: words about it, then the lines behind a line `OLD`, in whose place
+/// those behind the line `NEW` are put, and so on with every further line `OLD`.
 fn made(text: &str, edit: &str) -> Result<String, String> {
-    let (_, lines) = edit.split_once("\nOLD\n").ok_or("has no line OLD")?;
-    let (old, new) = lines.split_once("\nNEW\n").ok_or("has no line NEW behind it")?;
-    let (old, new) = (format!("{old}\n"), if new.is_empty() { "\n" } else { new });
-    match text.matches(&old).count() {
-        1 => Ok(text.replace(&old, new)),
+    let (_, pairs) = edit.split_once("\nOLD\n").ok_or("has no line OLD")?;
+    let pairs = pairs.strip_suffix('\n').unwrap_or(pairs);
+    pairs.split("\nOLD\n").try_fold(text.to_string(), |text, pair| {
+        let pair = format!("{pair}\n");
+        let (old, new) = pair.split_once("\nNEW\n").ok_or("has no line NEW behind it")?;
+        put(&text, &format!("{old}\n"), if new.is_empty() { "\n" } else { new })
+    })
+}
+
+/// The text with the new lines in the place of the old ones, which must stand in it exactly once.
+fn put(text: &str, old: &str, new: &str) -> Result<String, String> {
+    match text.matches(old).count() {
+        1 => Ok(text.replace(old, new)),
         times => Err(format!("its old lines stand {times} times in the text")),
     }
 }

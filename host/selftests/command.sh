@@ -307,7 +307,9 @@ check_written' print_answers
   wrong cue/ends over-by-whole-ticks 'samples * 90000 + rate - 1) / rate' 'samples * 90000) / rate'
   wrong cue/stamps length-for-samples 'number _ _ samples rate _ _ stamp' \
     'number samples _ _ rate _ _ stamp'
-  wrong cue/falling never-over '[ "${times[$1]}" -ge "$over" ] || return 0' 'return 0'
+  wrong cue/rates never-over '[ "${times[$1]}" -ge "$over" ] || return 0' 'return 0'
+  wrong cue/rates over-in-the-first-frame-s-time '[ "${times[$1]}" -ge "$over" ] || return 0' \
+    '[ "${times[$1]}" -ge "$((stamp + 1920))" ] || return 0'
   wrong cue/ends ticks-not-said "printf '%s (%s ticks)' \"\${asked[\$1]}\"" \
     "printf '%s (%s)' \"\${asked[\$1]}\""
   wrong cue/losses_told words-of-the-sheet "absent='left out'" "absent='not on the sheet'"

@@ -24,19 +24,26 @@ replace() {
   printf '%s\n' "${text/"$2"/"$3"}" >"$1"
 }
 
-# as_requested FILE: writes the Rust module as requested, by the rule of host/oracle/build.rs: the lines of an edit that
-# stand behind OLD, and in the text exactly once, give way to those behind NEW.
+# as_requested FILE: writes the Rust module as requested, by the rule of host/oracle/build.rs: of each pair of an edit
+# the lines behind OLD, which stand in the text exactly once, give way to those behind NEW; stamping.rs and parts.rs
+# follow.
 as_requested() {
-  local edit lines old new
+  local edit pairs pair old new
   cp host/oracle/audio_frame.rs "$1"
   for edit in host/oracle/requested/*.edit; do
-    lines=$(<"$edit")$'\n'
-    [[ $lines == *$'\nOLD\n'*$'\nNEW\n'* ]] || die "$edit has no lines OLD and NEW"
-    lines=${lines#*$'\nOLD\n'}
-    old=${lines%%$'\nNEW\n'*}$'\n'
-    new=${lines#*$'\nNEW\n'}
-    replace "$1" "$old" "${new:-$'\n'}"
+    pairs=$(<"$edit")
+    [[ $pairs == *$'\nOLD\n'* ]] || die "$edit has no line OLD"
+    pairs=${pairs#*$'\nOLD\n'}$'\nOLD\n'
+    while [ -n "$pairs" ]; do
+      pair=${pairs%%$'\nOLD\n'*}$'\n'
+      pairs=${pairs#*$'\nOLD\n'}
+      [[ $pair == *$'\nNEW\n'* ]] || die "$edit has no line NEW behind a line OLD"
+      old=${pair%%$'\nNEW\n'*}$'\n'
+      new=${pair#*$'\nNEW\n'}
+      replace "$1" "$old" "${new:-$'\n'}"
+    done
   done
+  cat host/oracle/requested/stamping.rs host/oracle/parts.rs >>"$1"
 }
 
 # expect_difference NAME COMMAND..: runs a command that has to stop at a difference. What a program
@@ -144,6 +151,11 @@ wrong_type() {
 # wrong_domain NAME OLD NEW: another domain of equality.
 wrong_domain() {
   instead "$1" oracle/src/domain/mod.rs "$2" "$3"
+}
+
+# wrong_since NAME OLD NEW: the same, in what K7 asks of it.
+wrong_since() {
+  instead "$1" oracle/src/domain/since.rs "$2" "$3"
 }
 
 # build_runner MEMBER PROGRAM: builds that program of the copy, which is then $runner.

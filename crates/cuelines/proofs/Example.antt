@@ -6,7 +6,7 @@ use Rattle.heads.specs.Bits.{number}
 use Rattle.heads.specs.Judge.{refuseIf}
 use Rattle.heads.specs.Adts.{adtsHead, adtsJudged, adtsHeaderLength}
 use Rattle.heads.specs.Syntax.{headOf, needOf, syntaxOf}
-use Rattle.splitter.specs.Stamp.{far, farPts, badAnchor, badTiming, manySince, manyFrames, after, give, forgotten}
+use Rattle.splitter.specs.Stamp.{far, farPts, badAnchor, badTiming, manySince, manyFrames, after, next, moved, learnt, give, forgotten}
 use Rattle.splitter.specs.Push.{badState, badCount, tightOf, refusalOf, push}
 use Rattle.splitter.proofs.Instances.{adts}
 use Rattle.numbers.specs.Decimal.{decimal}
@@ -23,5 +23,5 @@ pub example-heard : cueText 2 (pos 4178 ∷ negsuc 0 ∷ pos 4179 ∷ []) (adts 
     ++ (ascii "                                                          none\n"
     ++ (ascii "       3     7  6  1024  44100  2       -                 4179\n" ++ ascii
     "E                    0     0\n"))
-unfolding number refuseIf adtsHead adtsJudged adtsHeaderLength headOf needOf syntaxOf far farPts badAnchor badTiming manySince manyFrames after give forgotten badState badCount tightOf refusalOf push decimal right lowDigits line endLine payloadsOf pushesOf counts placeIn cueText
+unfolding number refuseIf adtsHead adtsJudged adtsHeaderLength headOf needOf syntaxOf far farPts badAnchor badTiming manySince manyFrames after next moved learnt give forgotten badState badCount tightOf refusalOf push decimal right lowDigits line endLine payloadsOf pushesOf counts placeIn cueText
 example-heard = refl

@@ -17,39 +17,50 @@ use Rattle.heads.specs.Syntax.{headOf}
 use Rattle.heads.specs.declared.syntax.AudioSyntax.the-variants.{Ac3}
 use Rattle.splitter.specs.Stamp.{Frame, far, farPts}
 use Rattle.splitter.specs.Push.{tightOf, run, new}
-use Rattle.splitter.specs.Demand.{tailAt, limit, stamped, allRows}
+use Rattle.splitter.specs.Demand.{stampOf, tailAt, limit, stamped, allRows}
+use Rattle.splitter.specs.Alike.{Same}
 use Rattle.splitter.proofs.Instances.{eac3, pushes, given-eac3}
 use Rattle.cues.specs.Cue.{counts, placeIn, Answer, refused, found, cueOf}
 use Rattle.cues.specs.Span.{Sounds, Rising}
 use Rattle.cues.proofs.Laws.{cue-joined}
-use Rattle.cues.proofs.Sounding.{cue-finds, cue-none}
+use Rattle.cues.proofs.Sounding.{Stamped, alike-timed, cue-finds, cue-none}
 
 -- ---- frames
 
 abbrev frames : List Frame
 frames = stamped (headOf Ac3) (eac3 ∷ eac3 ∷ eac3 ∷ []) (pushes [] eac3 3 7)
 
+-- they have one sample count and one rate, so that every one has a stamp
+same-eac3 : Same (headOf Ac3) 1536 48000 eac3
+unfolding headOf a52Head byBsid nfchans eac3Judged eac3TailWidths fscod2Bits numblkscodBits refuseIf number
+same-eac3 = (refl, refl)
+
+timed-eac3 : Stamped frames
+timed-eac3 =
+    alike-timed 0 Ac3 1536 48000 (eac3 ∷ eac3 ∷ eac3 ∷ []) (pushes [] eac3 3 7) given-eac3
+    (same-eac3, (same-eac3, (same-eac3, tt)))
+
 rise-eac3 : Rising frames
-unfolding headOf a52Head byBsid nfchans eac3Judged eac3TailWidths fscod2Bits numblkscodBits refuseIf number far farPts tightOf tailAt limit
+unfolding stampOf headOf a52Head byBsid nfchans eac3Judged eac3TailWidths fscod2Bits numblkscodBits refuseIf number far farPts tightOf tailAt limit
 rise-eac3 zero h = leZ-yes tt
 rise-eac3 (suc zero) h = leZ-yes tt
 rise-eac3 (suc (suc k)) h = absurd (let no : ⊥ = omega arith in no)
 
 sounds-eac3 : Sounds frames (pos 3999) 1
-unfolding headOf a52Head byBsid nfchans eac3Judged eac3TailWidths fscod2Bits numblkscodBits refuseIf number far farPts tightOf tailAt limit
+unfolding stampOf headOf a52Head byBsid nfchans eac3Judged eac3TailWidths fscod2Bits numblkscodBits refuseIf number far farPts tightOf tailAt limit
 sounds-eac3 = record { there = lit< tt; begun = leZ-yes tt; next = λ h. ltZ-yes tt }
 
 -- one tick before the last frame begins, the second sounds
 pub cue-eac3 : cueOf (allRows (run (new 0) (pushes [] eac3 3 7))) (pos 3999) ≡ found (some 1)
 cue-eac3 =
-    cue-finds 0 Ac3 1536 48000 (eac3 ∷ eac3 ∷ eac3 ∷ []) (pushes [] eac3 3 7) given-eac3 rise-eac3 (pos 3999) 1
+    cue-finds 0 Ac3 (eac3 ∷ eac3 ∷ eac3 ∷ []) (pushes [] eac3 3 7) given-eac3 timed-eac3 rise-eac3 (pos 3999) 1
     sounds-eac3
 
 -- one tick before the first begins, none does
 pub early-eac3 : cueOf (allRows (run (new 0) (pushes [] eac3 3 7))) (pos 999) ≡ found none
-unfolding headOf a52Head byBsid nfchans eac3Judged eac3TailWidths fscod2Bits numblkscodBits refuseIf number far farPts tightOf tailAt limit
+unfolding stampOf headOf a52Head byBsid nfchans eac3Judged eac3TailWidths fscod2Bits numblkscodBits refuseIf number far farPts tightOf tailAt limit
 early-eac3 =
-    cue-none 0 Ac3 1536 48000 (eac3 ∷ eac3 ∷ eac3 ∷ []) (pushes [] eac3 3 7) given-eac3 rise-eac3 (pos 999) (ltZ-yes tt)
+    cue-none 0 Ac3 (eac3 ∷ eac3 ∷ eac3 ∷ []) (pushes [] eac3 3 7) given-eac3 timed-eac3 rise-eac3 (pos 999) (ltZ-yes tt)
 
 -- ---- rows
 

@@ -1,5 +1,5 @@
--- The cue over whole frames from a new splitter: by demand 3, it finds the frame whose time span holds the cue. Assumes
--- nothing.
+-- The cue over whole frames from a new splitter: by demand 3, it finds the frame whose time span holds the cue, where
+-- every frame has a stamp; and where all have one sample count and one rate, every frame has one. Assumes nothing.
 use mathlib.Core.Path.{_≡_, refl, sym, _∙_, ap, subst}
 use mathlib.Core.Bool.{Bool, true, false, not, _&&_}
 use mathlib.Core.Option.{Option, none, some}
@@ -12,19 +12,23 @@ use lib.IntN.{ℤ, pos, negsuc}
 use lib.Signed.{leZ, ltZ, _≤ℤ_, _<ℤ_, leZ-yes, ltZ-yes, <ℤ-≤ℤ-trans, clashℤ}
 use lib.ListN.{length, take, drop}
 use lib.Seq.{take-at, drop-at}
-use Rattle.heads.specs.Syntax.{headOf}
+use Rattle.heads.proofs.Promise.{need-least}
+use Rattle.heads.specs.Syntax.{headOf, needOf}
 use Rattle.heads.specs.declared.info.AudioFrameInfo.{AudioFrameInfo}
 use Rattle.heads.specs.declared.syntax.AudioSyntax.{AudioSyntax}
 use Rattle.splitter.specs.Bounds.{rowWidth}
 use Rattle.splitter.specs.Cut.{Reader}
 use Rattle.splitter.specs.Stamp.{Frame}
 use Rattle.splitter.specs.Push.{Event, stampMark, stampValue, row, rowsOf, run, new}
-use Rattle.splitter.specs.Demand.{Point, IsPoint, Timed, pointOf, within, stampFrom, framesFrom, stamped, allRows, Given3, Meets3}
+use Rattle.splitter.specs.Demand.{Timed, Each, Whole, within, stampOf, framesFrom, stamped, allRows, Given3, Handed3}
+use Rattle.splitter.specs.Alike.{Same, Point, IsPoint, pointOf, stampFrom}
 use Rattle.splitter.specs.declared.timing.Pts.{Pts}
 use Rattle.splitter.specs.declared.timing.Pts.the-variants.{At, Absent}
 use Rattle.splitter.proofs.Account.{rows-size}
-use Rattle.splitter.proofs.Demand3.{demand3}
-use Rattle.cues.specs.Cue.{isOne, markOf, stampOf, counts, rowCount, placeIn, Answer, refused, found, cueOf}
+use Rattle.splitter.proofs.Demand3.{demand3, demand3-alike}
+use Rattle.splitter.proofs.Literal.{alike-stamps}
+use Rattle.splitter.proofs.Places.{Solid}
+use Rattle.cues.specs.Cue.{isOne, counts, rowCount, placeIn, Answer, refused, found, cueOf}
 use Rattle.cues.specs.Places.{rowAt, Right}
 use Rattle.cues.specs.Span.{beginOf, Sounds, Rising}
 use Rattle.cues.proofs.Laws.{row-next, cue-whole, place-right, place-only}
@@ -66,7 +70,8 @@ no-le a b h = by (leZ a b) refl
 
 -- ---- frames that have stamps
 
-abbrev Stamped : List Frame → Type 0
+-- every one of them has one
+abbrev pub Stamped : List Frame → Type 0
 Stamped [] = Unit {0}
 Stamped (f ∷ fs) = Timed (f .stamp) × Stamped fs
 
@@ -168,8 +173,22 @@ frames-count : (rd : Reader) (σ : ℕ → AudioFrameInfo → Pts) (j : ℕ) (A 
 frames-count rd σ j [] = refl
 frames-count rd σ j (f ∷ A) = ap suc (frames-count rd σ (suc j) A)
 
-module _ (code : ℕ) (x : AudioSyntax) (sm rt : ℕ) (A : List (List ℕ)) (evs : List Event)
-    (given : Given3 code x sm rt A evs) where
+-- frames of one sample count and one rate: all of them have a stamp, whatever timestamps come between
+pub alike-timed : (code : ℕ) (x : AudioSyntax) (sm rt : ℕ) (A : List (List ℕ)) (evs : List Event)
+    → Given3 code x A evs → Each (Same (headOf x) sm rt) A → Stamped (stamped (headOf x) A evs)
+alike-timed code x sm rt A evs given alike =
+    subst Stamped (sym (alike-stamps (headOf x) sm rt A alike (solid A (given .whole-frames)) (within A 0 evs)
+    (given .joins)))
+    (frames-stamped (headOf x) (λ j i. stampFrom (pointOf A 0 (within A 0 evs) none j) j i)
+    (λ j i. point-timed (pointOf A 0 (within A 0 evs) none j)
+    (demand3-alike code x sm rt A evs given alike .all-stamped j) j i) 0 A)
+  where
+    solid : (B : List (List ℕ)) → Each (Whole (needOf x) (headOf x)) B → Solid B
+    solid [] g = tt
+    solid (f ∷ B) g = (omega (arith, g .0 .long, need-least x), solid B (g .1))
+
+module _ (code : ℕ) (x : AudioSyntax) (A : List (List ℕ)) (evs : List Event) (given : Given3 code x A evs)
+    (timed : Stamped (stamped (headOf x) A evs)) where
   -- A's frames with their stamps, and all rows that the pushes gave
   abbrev F : List Frame
   F = stamped (headOf x) A evs
@@ -177,19 +196,16 @@ module _ (code : ℕ) (x : AudioSyntax) (sm rt : ℕ) (A : List (List ℕ)) (evs
   abbrev rows : List ℤ
   rows = allRows (run (new code) evs)
 
-  met : Meets3 code x A evs
-  met = demand3 code x sm rt A evs given
-
-  abbrev σ : ℕ → AudioFrameInfo → Pts
-  σ = λ j i. stampFrom (pointOf A 0 (within A 0 evs) none j) j i
-
-  all-stamped : Stamped F
-  all-stamped =
-      frames-stamped (headOf x) σ
-      (λ j i. point-timed (pointOf A 0 (within A 0 evs) none j) (met .all-stamped j) j i) 0 A
+  met : Handed3 code A evs F
+  met = demand3 code x A evs given .handed
 
   some-frame : 0 < length F
-  some-frame = omega (arith, given .some-frame, frames-count (headOf x) σ 0 A)
+  some-frame =
+      omega (
+        arith,
+        given .some-frame,
+        frames-count (headOf x) (λ j i. stampOf (headOf x) A (within A 0 evs) j) 0 A,
+      )
 
   cue-is : (time : ℤ) → cueOf rows time ≡ found (placeIn (rowsOf F) time)
   cue-is time =
@@ -198,16 +214,16 @@ module _ (code : ℕ) (x : AudioSyntax) (sm rt : ℕ) (A : List (List ℕ)) (evs
 
   -- the frame that is found has begun by then, and the next one, if there is one, begins later
   pub cue-sounds : (time : ℤ) (k : ℕ) → cueOf rows time ≡ found (some k) → Sounds F time k
-  cue-sounds time k e = place-sounds time F all-stamped k (found-one (sym (cue-is time) ∙ e))
+  cue-sounds time k e = place-sounds time F timed k (found-one (sym (cue-is time) ∙ e))
 
   -- where none is found, the first frame begins later
   pub cue-early : (time : ℤ) → cueOf rows time ≡ found none → time <ℤ beginOf F 0
-  cue-early time e = place-early time F all-stamped some-frame (found-one (sym (cue-is time) ∙ e))
+  cue-early time e = place-early time F timed some-frame (found-one (sym (cue-is time) ∙ e))
 
   -- and where the stamps rise, that frame is the only one, and no other time finds none
   module _ (rise : Rising F) where
     pub cue-finds : (time : ℤ) (k : ℕ) → Sounds F time k → cueOf rows time ≡ found (some k)
-    cue-finds time k h = cue-is time ∙ ap found (sounds-place time F all-stamped rise k h)
+    cue-finds time k h = cue-is time ∙ ap found (sounds-place time F timed rise k h)
 
     pub cue-none : (time : ℤ) → time <ℤ beginOf F 0 → cueOf rows time ≡ found none
-    cue-none time h = cue-is time ∙ ap found (early-place time F all-stamped rise h)
+    cue-none time h = cue-is time ∙ ap found (early-place time F timed rise h)

@@ -147,8 +147,15 @@ fn parse_anchor_numbers(line: &[u8], at: usize, pts: i64) -> AnchorText {
     };
     let Short::Value {
         value: sample_rate,
-        next,
+        next: rate_end,
     } = short_after(line, samples_end, b':')
+    else {
+        return AnchorText::NoAnchor;
+    };
+    let Number::Value {
+        value: unread,
+        next,
+    } = number_after(line, rate_end, b':', 1)
     else {
         return AnchorText::NoAnchor;
     };
@@ -158,6 +165,7 @@ fn parse_anchor_numbers(line: &[u8], at: usize, pts: i64) -> AnchorText {
             frames_since,
             samples_per_frame,
             sample_rate,
+            unread: unread == 1,
         }),
         next,
     }
@@ -174,10 +182,7 @@ pub fn put_state(
     let after_pending = put_field(after_code, block, splitter.pending_bytes() as u64, b'/');
     let after_timing = put_timing(after_pending, block, timing);
     let after_discarded = put_field(after_timing, block, splitter.discarded_bytes(), b'/');
-    if splitter.is_locked() {
-        return after_discarded.put_byte(block, b'1');
-    }
-    after_discarded.put_byte(block, b'0')
+    put_flag(after_discarded, block, splitter.is_locked())
 }
 
 fn put_timing(output: Output, block: &mut [u8; BLOCK_LEN], timing: Timing) -> Output {
@@ -205,5 +210,13 @@ fn put_anchor_numbers(output: Output, block: &mut [u8; BLOCK_LEN], anchor: Ancho
     let after_pts = put_signed(output, block, anchor.pts).put_byte(block, b':');
     let after_frames = put_field(after_pts, block, anchor.frames_since as u64, b':');
     let after_samples = put_field(after_frames, block, anchor.samples_per_frame as u64, b':');
-    after_samples.put_decimal(block, anchor.sample_rate as u64)
+    let after_rate = put_field(after_samples, block, anchor.sample_rate as u64, b':');
+    put_flag(after_rate, block, anchor.unread)
+}
+
+fn put_flag(output: Output, block: &mut [u8; BLOCK_LEN], flag: bool) -> Output {
+    if flag {
+        return output.put_byte(block, b'1');
+    }
+    output.put_byte(block, b'0')
 }

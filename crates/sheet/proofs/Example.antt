@@ -10,7 +10,7 @@ use Rattle.heads.specs.Bits.{number}
 use Rattle.heads.specs.Judge.{refuseIf}
 use Rattle.heads.specs.Adts.{adtsHead, adtsJudged, adtsHeaderLength}
 use Rattle.heads.specs.Syntax.{headOf, needOf, syntaxOf}
-use Rattle.splitter.specs.Stamp.{far, farPts, badAnchor, badTiming, manySince, manyFrames, after, give, forgotten}
+use Rattle.splitter.specs.Stamp.{far, farPts, badAnchor, badTiming, manySince, manyFrames, after, next, moved, learnt, give, forgotten}
 use Rattle.splitter.specs.Push.{badState, badCount, tightOf, refusalOf, push}
 use Rattle.numbers.specs.Decimal.{decimal}
 use Rattle.sheet.specs.Layout.{right, lowDigits, line, endLine}
@@ -31,7 +31,7 @@ pub example-holds : printed (ascii "2\n" ++ (F ++ F))
     ≡ ascii "       1     7  6  1024  44100  2       -                    0\n"
     ++ (ascii "       2     7  6  1024  44100  2       -                 2089\n" ++ ascii
     "E                    0     0\n")
-unfolding number refuseIf adtsHead adtsJudged adtsHeaderLength headOf needOf syntaxOf far farPts badAnchor badTiming manySince manyFrames after give forgotten badState badCount tightOf refusalOf push decimal right lowDigits line endLine payloadsOf sheetOf firstLine printed
+unfolding number refuseIf adtsHead adtsJudged adtsHeaderLength headOf needOf syntaxOf far farPts badAnchor badTiming manySince manyFrames after next moved learnt give forgotten badState badCount tightOf refusalOf push decimal right lowDigits line endLine payloadsOf sheetOf firstLine printed
 example-holds = refl
 
 -- of the ten digits, 0, 1 and 2 are codes

@@ -20,6 +20,8 @@ pub mod Sheets
 pub mod Stopping
 -- the sheet of a stream of whole frames
 pub mod Whole
+-- in which every frame has a stamp, and stamps never fall
+pub mod Rising
 -- document 01's example, computed
 pub mod Example
 -- a line is read back in one way only

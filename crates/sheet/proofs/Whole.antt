@@ -1,36 +1,43 @@
--- THE SHEET OF WHOLE FRAMES: a stream of whole frames of one syntax and one geometry has exactly a line for each frame,
--- in order, each with its stamp, and nothing discarded and nothing pending. By the splitter's demand 3, of the pushes
--- that the sheet makes. Assumes nothing.
+-- THE SHEET OF WHOLE FRAMES: a stream of whole frames of one syntax has exactly a line for each frame, in order, each
+-- with its stamp, and nothing discarded and nothing pending. By the splitter's demand 3, of the pushes that the sheet
+-- makes. Assumes nothing.
 use mathlib.Core.Path.{_≡_, refl, sym, _∙_, ap, ap₂, subst}
-use mathlib.Core.Bool.{Bool, true, false}
-use mathlib.Core.Option.{Option, none, some}
+use mathlib.Core.Bool.{Bool, true, false, _&&_}
+use mathlib.Core.Option.{Option, some}
 use mathlib.Core.List.{List, [], _∷_, _++_, map, append-assoc}
 use Prim.Native.Nat.{ℕ, zero, suc, _+_, _*_, _/_, _≤_, _<_}
 use native.Mathlib.Omega.{arith}
-use native.Mathlib.Nat.{sub-zero}
-use lib.Dec.{ltb}
+use native.Mathlib.Nat.{zero-add, add-zero, zero-mul, zero-div}
+use lib.Dec.{eqb, ltb, lit<, lit≤}
 use lib.IntN.{ℤ, pos, +ℤ-idl}
-use lib.ListN.{length, take, drop, replicate, length-append, length-replicate, length-take}
-use lib.Seq.{length-take-le, take-all, take-take, take-at, drop-at}
-use borrow.Author.Tests.{lt-ltb, le-ltb}
-use Rattle.heads.specs.Adts.{adtsHead, adtsJudged, adtsHeaderLength}
+use lib.ListN.{length, take, drop, getD, replicate, length-append, length-replicate, length-take}
+use lib.Seq.{length-take-le, take-all, take-take, take-at, drop-at, getD-at}
+use borrow.Author.Tests.{lt-ltb, le-ltb, eq-eqb, ne-eqb}
 use Rattle.heads.specs.Bits.{number}
 use Rattle.heads.specs.Judge.{refuseIf}
+use Rattle.heads.specs.Ac3.{nfchans}
+use Rattle.heads.specs.Eac3.{eac3Judged, eac3TailWidths, fscod2Bits, numblkscodBits}
+use Rattle.heads.specs.A52.{a52Head, byBsid}
+use Rattle.heads.specs.Mpeg.{mpegHead, mpegJudged, mpegKbps, mpegRate, mpegShape, layer3Shape, mpegChannels}
+use Rattle.heads.specs.Adts.{adtsHead, adtsJudged, adtsHeaderLength}
 use Rattle.heads.proofs.Promise.{need-least, need-most, length-most}
 use Rattle.heads.specs.Syntax.{headOf, needOf, syntaxOf}
 use Rattle.heads.specs.declared.info.AudioFrameInfo.{AudioFrameInfo}
+use Rattle.heads.specs.declared.info.AudioFrameKind.{AudioFrameKind}
+use Rattle.heads.specs.declared.info.BitRate.the-variants.{Absent as NoBitRate}
 use Rattle.heads.specs.declared.syntax.AudioSyntax.{AudioSyntax}
 use Rattle.heads.specs.declared.syntax.AudioSyntax.the-variants.{Ac3, MpegAudio, AacAdts}
 use Rattle.heads.specs.declared.syntax.CodedSyntax.the-variants.{Known}
 use Rattle.splitter.specs.Bounds.{pendingMost, payloadMost, sinceMost, frameLeast, rowWidth}
 use Rattle.splitter.specs.Answer.{Answer, refused, done}
 use Rattle.splitter.specs.Cut.{Reader}
-use Rattle.splitter.specs.Demand.{join, Each, Whole, Same, whole, begun, tailAt, limit, within, payloads, Starts, Point, moved, pickPoint, pointOf, stampFrom, infoOr, framesFrom, stamped, Seen, seen, owed, rowsOfAnswer, allRows, Carried, CarriedBy, Given3, Meets3}
+use Rattle.splitter.specs.Alike.{Same}
+use Rattle.splitter.specs.Demand.{join, Each, Whole, whole, begun, tailAt, limit, within, payloads, Starts, pickTime, timeOf as ownTime, Mark, reached, anchored, turnE, stampE, tickE, markOf, stampOf, infoOr, framesFrom, stamped, Seen, seen, owed, rowsOfAnswer, allRows, Carried, CarriedBy, Given3, Handed3}
 use Rattle.splitter.specs.Push.{Event, Outcome, event, tightOf, row, rowsOf, push, run, final, new}
 use Rattle.splitter.specs.Stamp.{Frame, far, farPts}
 use Rattle.splitter.specs.declared.state.AudioFrameSplitter.{AudioFrameSplitter}
 use Rattle.splitter.specs.declared.timing.Pts.{Pts}
-use Rattle.splitter.specs.declared.timing.Pts.the-variants.{Absent}
+use Rattle.splitter.specs.declared.timing.Pts.the-variants.{At, Absent}
 use Rattle.splitter.proofs.Account.{rows-size}
 use Rattle.splitter.proofs.Calls.{within-yes, owed-yes}
 use Rattle.splitter.proofs.Demand3.{demand3}
@@ -40,7 +47,7 @@ use Rattle.splitter.proofs.Places.{Part, rest, begun-yes, rest-part, tail-rest}
 use Rattle.numbers.specs.Decimal.{decimal}
 use Rattle.sheet.specs.Layout.{right, lowDigits, line, endLine}
 use Rattle.sheet.specs.Sheet.{payloadSize, payloadsOf, timeOf, linesOf, pendSize, outSize, rowsSize, endOf, goOn, sheetFrom, opened, sheetOf}
-use Rattle.sheet.specs.Whole.{stampAt, frameLines}
+use Rattle.sheet.specs.Whole.{frameLines, sheetLines, stampsFrom, sheetStamps, stampAt, alikeLines}
 use Rattle.sheet.proofs.Example.{ascii}
 use Rattle.sheet.proofs.Lines.{lines-split, lines-front}
 use Rattle.sheet.proofs.Sheets.{standing, AllPayloads, payloads-none, payloads-next, payloads-all, payloads-small}
@@ -255,41 +262,33 @@ sheet-rows (p ∷ ps) s b n g h =
         (sym (lines-append n r (rowCount later) (take (r * rowWidth) (o .rows)) (allRows later)
         (rows-there s (eventOf b g p) (done t r m) e)))
 
--- ---- the stamps: the first payload's timestamp counts, and there is no other
+-- ---- the stamps: the first payload's timestamp is the first frame's own, and no other frame has one
 
--- the point of each frame: the time 0, from frame 0 on
-abbrev origin : Point
-origin = record { time = pos 0; first = 0 }
+pick-absent : (c : Bool) → pickTime c Absent Absent ≡ Absent
+pick-absent true = refl
+pick-absent false = refl
 
-pick-same : (t : Bool) (q : Option Point) → pickPoint t q q ≡ q
-pick-same true q = refl
-pick-same false q = refl
+-- pushes after the first bring no timestamp
+later-none : (A ps : List (List ℕ)) (s : AudioFrameSplitter) (b : List ℕ) (y j : ℕ)
+    → ownTime A y (eventsFrom s b true ps) j ≡ Absent
+later-none A [] s b y j = refl
+later-none A (p ∷ ps) s b y j =
+    rw (later-none A ps _ _ (y + length p) j) (pick-absent (eqb j (begun A y) && ltb j (begun A (y + length p))))
 
-moved-absent : (t : Bool) (a : ℕ) (q : Option Point) → moved t Absent a q ≡ q
-moved-absent true a q = refl
-moved-absent false a q = refl
-
--- pushes after the first change no point
-later-point : (A ps : List (List ℕ)) (s : AudioFrameSplitter) (b : List ℕ) (y : ℕ) (q : Option Point) (j : ℕ)
-    → pointOf A y (eventsFrom s b true ps) q j ≡ q
-later-point A [] s b y q j = refl
-later-point A (p ∷ ps) s b y q j =
-    rw (moved-absent (ltb (begun A y) (begun A (y + length p))) (begun A y) q, later-point A ps _ _ (y + length p) q j)
-    (pick-same (ltb j (begun A y)) q)
-
--- the first makes the point of every frame
-first-point : (f : List ℕ) (B : List (List ℕ)) (p : List ℕ) (ps : List (List ℕ)) (s : AudioFrameSplitter) (b : List ℕ)
-    (j : ℕ) → 0 < length p
-    → pointOf (f ∷ B) 0 (eventsFrom s b false (p ∷ ps)) none j ≡ some origin
-first-point f B p ps s b j h =
-    rw (le-ltb j 0 (omega arith), commences) (later-point (f ∷ B) ps _ _ (0 + length p) (some origin) j)
+-- the first brings the time 0, for the frame that commences at its front
+first-zero : (f : List ℕ) (B : List (List ℕ)) (p : List ℕ) (ps : List (List ℕ)) (s : AudioFrameSplitter) (b : List ℕ)
+    → 0 < length p
+    → ownTime (f ∷ B) 0 (eventsFrom s b false (p ∷ ps)) 0 ≡ At (pos 0)
+first-zero f B p ps s b h = rw commences
   where
     commences : ltb 0 (begun (f ∷ B) (0 + length p)) ≡ true
     commences = lt-ltb 0 (begun (f ∷ B) (0 + length p)) (omega (arith, begun-yes f B (0 + length p) (omega arith)))
 
--- the stamp from there
-origin-stamp : (j : ℕ) (i : AudioFrameInfo) → stampFrom (some origin) j i ≡ stampAt j i
-origin-stamp j i = rw (+ℤ-idl, sub-zero)
+-- and for no other
+others-none : (f : List ℕ) (B : List (List ℕ)) (p : List ℕ) (ps : List (List ℕ)) (s : AudioFrameSplitter) (b : List ℕ)
+    (j : ℕ) → ownTime (f ∷ B) 0 (eventsFrom s b false (p ∷ ps)) (suc j) ≡ Absent
+others-none f B p ps s b j =
+    rw (ne-eqb (suc j) 0 (λ q. omega arith)) (later-none (f ∷ B) ps _ _ (0 + length p) (suc j))
 
 -- ---- the lines of frames
 
@@ -298,25 +297,68 @@ frames-count : (rd : Reader) (σ : ℕ → AudioFrameInfo → Pts) (n : ℕ) (B 
 frames-count rd σ n [] = refl
 frames-count rd σ n (f ∷ B) = ap suc (frames-count rd σ (suc n) B)
 
--- rows whose stamps are those asked for give the lines asked for
-sheet-lines : (rd : Reader) (σ : ℕ → AudioFrameInfo → Pts) → ((j : ℕ) (i : AudioFrameInfo) → σ j i ≡ stampAt j i)
-    → (n : ℕ) (B : List (List ℕ))
-    → linesOf n (length B) (rowsOf (framesFrom rd σ n B)) ≡ frameLines rd n B
-sheet-lines rd σ e n [] = refl
-sheet-lines rd σ e n (f ∷ B) =
-    ap₂ (λ (t : Pts) (l : List ℕ). line (suc n) (row (record {
-      info = infoOr (rd f);
-      bytes = f;
-      stamp = t;
-    })) ++ l) (e n (infoOr (rd f)))
-    (sheet-lines rd σ e (suc n) B)
+-- events of which the first frame alone has a timestamp
+pub record OnlyFirst (A : List (List ℕ)) (es : List Event) : Type 0 where
+  pub first : ownTime A 0 es 0 ≡ At (pos 0)
+  pub others : (j : ℕ) → ownTime A 0 es (suc j) ≡ Absent
+
+-- the rule by the frames' numbers is the rule from frame to frame: P are the n frames before the frames B
+module _ (rd : Reader) (A : List (List ℕ)) (es : List Event) (only : OnlyFirst A es) where
+  here : (f : List ℕ) (B P : List (List ℕ)) (n : ℕ) → length P ≡ n → A ≡ P ++ (f ∷ B) → getD A n [] ≡ f
+  here f B P n p q = ap (λ (l : List (List ℕ)). getD l n []) q ∙ getD-at P f B [] n p
+
+  stamp-here : (f : List ℕ) (B P : List (List ℕ)) (n : ℕ) (t : Pts) → length P ≡ n → A ≡ P ++ (f ∷ B)
+      → ownTime A 0 es n ≡ t → stampOf rd A es n ≡ stampE t (markOf rd A es n) (infoOr (rd f))
+  unfolding stampOf
+  stamp-here f B P n t p q e =
+      λ k. stampE (e k) (markOf rd A es n) (infoOr (rd (here f B P n p q k)))
+
+  mark-here : (f : List ℕ) (B P : List (List ℕ)) (n : ℕ) (t : Pts) → length P ≡ n → A ≡ P ++ (f ∷ B)
+      → ownTime A 0 es n ≡ t → markOf rd A es (suc n) ≡ tickE t (markOf rd A es n) (infoOr (rd f))
+  mark-here f B P n t p q e =
+      λ k. tickE (e k) (markOf rd A es n) (infoOr (rd (here f B P n p q k)))
+
+  longer : (f : List ℕ) (P : List (List ℕ)) (n : ℕ) → length P ≡ n → length (P ++ (f ∷ [])) ≡ suc n
+  longer f P n p = omega (arith, length-append P (f ∷ []))
+
+  lines-by : (B P : List (List ℕ)) (n : ℕ) (t : Pts) → length P ≡ n → A ≡ P ++ B → ownTime A 0 es n ≡ t
+      → linesOf n (length B) (rowsOf (framesFrom rd (λ j i. stampOf rd A es j) n B))
+      ≡ frameLines rd t (markOf rd A es n) n B
+  lines-by [] P n t p q e = refl
+  lines-by (f ∷ B) P n t p q e =
+      ap₂ (λ (v : Pts) (l : List ℕ). line (suc n) (row (record {
+        info = infoOr (rd f);
+        bytes = f;
+        stamp = v;
+      })) ++ l) (stamp-here f B P n t p q e)
+      (lines-by B (P ++ (f ∷ [])) (suc n) Absent (longer f P n p) (q ∙ sym (append-assoc P (f ∷ []) B))
+      (only .others n)
+      ∙ ap (λ (m : Option Mark). frameLines rd Absent m (suc n) B) (mark-here f B P n t p q e))
+
+  stamps-by : (B P : List (List ℕ)) (n : ℕ) (t : Pts) → length P ≡ n → A ≡ P ++ B → ownTime A 0 es n ≡ t
+      → (j : ℕ) → j < length B → getD (stampsFrom rd t (markOf rd A es n) B) j Absent ≡ stampOf rd A es (n + j)
+  stamps-by [] P n t p q e j h = absurd (omega arith)
+  stamps-by (f ∷ B) P n t p q e zero h =
+      sym (stamp-here f B P n t p q e) ∙ ap (stampOf rd A es) (sym (add-zero n))
+  stamps-by (f ∷ B) P n t p q e (suc j) h =
+      ap (λ (m : Option Mark). getD (stampsFrom rd Absent m B) j Absent) (sym (mark-here f B P n t p q e))
+      ∙ stamps-by B (P ++ (f ∷ [])) (suc n) Absent (longer f P n p) (q ∙ sym (append-assoc P (f ∷ []) B))
+      (only .others n) j (omega arith)
+      ∙ ap (stampOf rd A es) (let z : suc n + j ≡ n + suc j = omega arith in z)
+
+  -- all of A's
+  pub sheet-lines : linesOf 0 (length A) (rowsOf (framesFrom rd (λ j i. stampOf rd A es j) 0 A)) ≡ sheetLines rd A
+  sheet-lines = lines-by A [] 0 (At (pos 0)) refl refl (only .first)
+
+  pub sheet-stamps : (j : ℕ) → j < length A → getD (sheetStamps rd A) j Absent ≡ stampOf rd A es j
+  sheet-stamps j h =
+      stamps-by A [] 0 (At (pos 0)) refl refl (only .first) j h ∙ ap (stampOf rd A es) (zero-add j)
 
 -- ---- the theorem
 
 -- the frames f and B; b is the pending buffer at first
-module _ (code : ℕ) (x : AudioSyntax) (sm rt : ℕ) (f : List ℕ) (B : List (List ℕ)) (known : syntaxOf code ≡ Known x)
-    (good : Each (Whole (needOf x) (headOf x)) (f ∷ B)) (same : Each (Same (headOf x) sm rt) (f ∷ B))
-    (few : length (f ∷ B) < sinceMost)
+module _ (code : ℕ) (x : AudioSyntax) (f : List ℕ) (B : List (List ℕ)) (known : syntaxOf code ≡ Known x)
+    (good : Each (Whole (needOf x) (headOf x)) (f ∷ B)) (few : length (f ∷ B) < sinceMost)
     (b : List ℕ) (long : pendSize ≤ length b) where
   abbrev A : List (List ℕ)
   A = f ∷ B
@@ -347,12 +389,11 @@ module _ (code : ℕ) (x : AudioSyntax) (sm rt : ℕ) (f : List ℕ) (B : List (
   starts = subst (λ (ps : List (List ℕ)). Starts (needOf x) (eventsFrom (new code) b false ps)) (sym split)
       (first-bytes, tt)
 
-  given : Given3 code x sm rt A evs
+  given : Given3 code x A evs
   given =
       record {
         known = known;
         whole-frames = good;
-        one-geometry = same;
         some-frame = omega arith;
         few = few;
         joins = ap (λ (es : List Event). join (payloads es)) all-within ∙ joins;
@@ -360,21 +401,21 @@ module _ (code : ℕ) (x : AudioSyntax) (sm rt : ℕ) (f : List ℕ) (B : List (
         carried = events-carried (payloadsOf (join A)) (new code) b false;
       }
 
-  met : Meets3 code x A evs
-  met = demand3 code x sm rt A evs given
+  met : Handed3 code A evs (stamped (headOf x) A evs)
+  met = demand3 code x A evs given .handed
+
+  only-first : OnlyFirst A (within A 0 evs)
+  only-first =
+      subst (OnlyFirst A) (sym all-within)
+      (subst (λ (ps : List (List ℕ)). OnlyFirst A (eventsFrom (new code) b false ps)) (sym split)
+      (record {
+        first = first-zero f B (take payloadSize (join A)) (payloadsOf (drop payloadSize (join A))) (new code) b
+            (omega (arith, first-bytes, need-least x));
+        others = others-none f B (take payloadSize (join A)) (payloadsOf (drop payloadSize (join A))) (new code) b;
+      }))
 
   abbrev σ : ℕ → AudioFrameInfo → Pts
-  σ = λ j i. stampFrom (pointOf A 0 (within A 0 evs) none j) j i
-
-  stamps : (j : ℕ) (i : AudioFrameInfo) → σ j i ≡ stampAt j i
-  stamps j i = ap (λ (q : Option Point). stampFrom q j i) point ∙ origin-stamp j i
-    where
-      point : pointOf A 0 (within A 0 evs) none j ≡ some origin
-      point =
-          ap (λ (es : List Event). pointOf A 0 es none j) all-within
-          ∙ ap (λ (ps : List (List ℕ)). pointOf A 0 (eventsFrom (new code) b false ps) none j) split
-          ∙ first-point f B (take payloadSize (join A)) (payloadsOf (drop payloadSize (join A))) (new code) b j
-          (omega (arith, first-bytes, need-least x))
+  σ = λ j i. stampOf (headOf x) A (within A 0 evs) j
 
   count : rowCount (run (new code) evs) ≡ length A
   count =
@@ -386,30 +427,74 @@ module _ (code : ℕ) (x : AudioSyntax) (sm rt : ℕ) (f : List ℕ) (B : List (
         frames-count (headOf x) σ 0 A,
       )
 
-  whole-from : sheetFrom (standing (new code) b 0 false) (payloadsOf (join A)) ≡ frameLines
-      (headOf x) 0 A ++ endLine 0 0
+  whole-from : sheetFrom (standing (new code) b 0 false) (payloadsOf (join A)) ≡ sheetLines (headOf x) A ++ endLine 0 0
   whole-from =
       sheet-rows (payloadsOf (join A)) (new code) b 0 false
       (subst AllDone (sym (met .each-push))
       (owed-done x A good code (stamped (headOf x) A evs) evs 0 easy (omega (arith, ap length joins))))
       ∙ ap₂ (λ (l m : List ℕ). l ++ m)
-      ((λ i. linesOf 0 (count i) (met .all-rows i)) ∙ sheet-lines (headOf x) σ stamps 0 A)
+      ((λ i. linesOf 0 (count i) (met .all-rows i)) ∙ sheet-lines (headOf x) A (within A 0 evs) only-first)
       (λ i. endLine (met .none-discarded i) (met .none-pending i))
 
--- A stream of fewer than 4,294,000,000 whole frames of one syntax, all with the same sample count and rate; none at all
--- will do. The one geometry is needed: a frame that a payload's end cuts inside its head is stamped by the geometry of
--- the frame before it.
-pub whole-sheet : (code : ℕ) (x : AudioSyntax) (sm rt : ℕ) (A : List (List ℕ)) → syntaxOf code ≡ Known x
-    → Each (Whole (needOf x) (headOf x)) A
-    → Each (Same (headOf x) sm rt) A → length A < sinceMost → sheetOf code (join A) ≡ frameLines
-    (headOf x) 0 A ++ endLine 0 0
+-- A stream of fewer than 4,294,000,000 whole frames of one syntax; none at all will do.
+pub whole-sheet : (code : ℕ) (x : AudioSyntax) (A : List (List ℕ)) → syntaxOf code ≡ Known x
+    → Each (Whole (needOf x) (headOf x)) A → length A < sinceMost
+    → sheetOf code (join A) ≡ sheetLines (headOf x) A ++ endLine 0 0
 unfolding sheetOf
-whole-sheet code x sm rt [] known good same few = ap (sheetFrom (opened code)) payloads-none
-whole-sheet code x sm rt (f ∷ B) known good same few =
-    whole-from code x sm rt f B known good same few (replicate pendSize 0) (omega (
-      arith,
-      length-replicate {A = ℕ} pendSize 0,
-    ))
+whole-sheet code x [] known good few = ap (sheetFrom (opened code)) payloads-none
+whole-sheet code x (f ∷ B) known good few =
+    whole-from code x f B known good few (replicate pendSize 0) (omega (arith, length-replicate {A = ℕ} pendSize 0))
+
+-- ---- one sample count and one rate
+
+module _ (rd : Reader) (sm rt : ℕ) where
+  -- the mark behind n frames
+  abbrev alikeMark : ℕ → Mark
+  alikeMark n = record { time = pos 0; since = n; samples = sm; rate = rt }
+
+  -- one frame more is counted
+  alike-on : (n : ℕ) (f : List ℕ) → Same rd sm rt f
+      → tickE Absent (some (alikeMark n)) (infoOr (rd f)) ≡ some (alikeMark (suc n))
+  alike-on n f g =
+      ap (λ (c : Bool). turnE c (far (reached (alikeMark n))) (alikeMark n) (infoOr (rd f)))
+      (ap₂ _&&_ (eq-eqb sm (infoOr (rd f) .«samples_per_frame») (sym (g .0)))
+      (eq-eqb rt (infoOr (rd f) .«sample_rate») (sym (g .1))))
+
+  -- and stamped from the time 0
+  alike-stamp : (n : ℕ) (f : List ℕ) → Same rd sm rt f → At (reached (alikeMark n)) ≡ stampAt n (infoOr (rd f))
+  alike-stamp n f g = rw (g .0, g .1, +ℤ-idl)
+
+  alike-from : (n : ℕ) (B : List (List ℕ)) → Each (Same rd sm rt) B
+      → frameLines rd Absent (some (alikeMark n)) n B ≡ alikeLines rd n B
+  alike-from n [] g = refl
+  alike-from n (f ∷ B) g =
+      ap₂ (λ (v : Pts) (l : List ℕ). line (suc n) (row (record {
+        info = infoOr (rd f);
+        bytes = f;
+        stamp = v;
+      })) ++ l) (alike-stamp n f (g .0))
+      (ap (λ (m : Option Mark). frameLines rd Absent m (suc n) B) (alike-on n f (g .0)) ∙ alike-from (suc n) B (g .1))
+
+  pub alike-lines : (A : List (List ℕ)) → Each (Same rd sm rt) A → sheetLines rd A ≡ alikeLines rd 0 A
+  alike-lines [] g = refl
+  alike-lines (f ∷ B) g =
+      ap₂ (λ (v : Pts) (l : List ℕ). line 1 (row (record { info = infoOr (rd f); bytes = f; stamp = v })) ++ l) zeroth
+      (ap (λ (m : Option Mark). frameLines rd Absent m 1 B) mark ∙ alike-from 1 B (g .1))
+    where
+      zeroth : At (pos 0) ≡ stampAt 0 (infoOr (rd f))
+      zeroth = rw (zero-mul (infoOr (rd f) .«samples_per_frame»), zero-div (infoOr (rd f) .«sample_rate»))
+
+      mark : some (anchored (pos 0) (infoOr (rd f))) ≡ some (alikeMark 1)
+      mark = λ k. some (record { time = pos 0; since = 1; samples = g .0 .0 k; rate = g .0 .1 k })
+
+-- Where all have the same sample count and rate, a frame's stamp goes by how many stand before it.
+pub whole-sheet-alike : (code : ℕ) (x : AudioSyntax) (sm rt : ℕ) (A : List (List ℕ)) → syntaxOf code ≡ Known x
+    → Each (Whole (needOf x) (headOf x)) A
+    → Each (Same (headOf x) sm rt) A → length A < sinceMost → sheetOf code (join A) ≡ alikeLines
+    (headOf x) 0 A ++ endLine 0 0
+whole-sheet-alike code x sm rt A known good same few =
+    whole-sheet code x A known good few
+    ∙ ap (λ (l : List ℕ). l ++ endLine 0 0) (alike-lines (headOf x) sm rt A same)
 
 -- ---- instances: of each syntax a frame, n times
 
@@ -417,34 +502,92 @@ each-replicate : (P : List ℕ → Type 0) (f : List ℕ) → P f → (n : ℕ) 
 each-replicate P f h zero = tt
 each-replicate P f h (suc n) = (h, each-replicate P f h n)
 
+same-eac3 : Same (headOf Ac3) 1536 48000 eac3
+unfolding headOf a52Head byBsid nfchans eac3Judged eac3TailWidths fscod2Bits numblkscodBits refuseIf number
+same-eac3 = (refl, refl)
+
+same-mpeg : Same (headOf MpegAudio) 576 24000 mpeg
+unfolding headOf mpegHead mpegJudged mpegKbps mpegRate mpegShape layer3Shape mpegChannels refuseIf number
+same-mpeg = (refl, refl)
+
+same-adts : Same (headOf AacAdts) 1024 44100 adts
+unfolding headOf adtsHead adtsJudged adtsHeaderLength refuseIf number
+same-adts = (refl, refl)
+
 module _ (n : ℕ) (few : n < sinceMost) where
-  pub sheet-eac3 : sheetOf 0 (join (replicate n eac3)) ≡ frameLines (headOf Ac3) 0 (replicate n eac3) ++ endLine 0 0
+  pub sheet-eac3 : sheetOf 0 (join (replicate n eac3)) ≡ alikeLines (headOf Ac3) 0 (replicate n eac3) ++ endLine 0 0
   sheet-eac3 =
-      whole-sheet 0 Ac3 1536 48000 (replicate n eac3) (given-eac3 .known)
+      whole-sheet-alike 0 Ac3 1536 48000 (replicate n eac3) (given-eac3 .known)
       (each-replicate (Whole (needOf Ac3) (headOf Ac3)) eac3 (given-eac3 .whole-frames .0) n)
-      (each-replicate (Same (headOf Ac3) 1536 48000) eac3 (given-eac3 .one-geometry .0) n)
+      (each-replicate (Same (headOf Ac3) 1536 48000) eac3 same-eac3 n)
       (omega (arith, length-replicate n eac3))
 
-  pub sheet-mpeg : sheetOf 1 (join (replicate n mpeg)) ≡ frameLines (headOf MpegAudio) 0
+  pub sheet-mpeg : sheetOf 1 (join (replicate n mpeg)) ≡ alikeLines (headOf MpegAudio) 0
       (replicate n mpeg) ++ endLine 0 0
   sheet-mpeg =
-      whole-sheet 1 MpegAudio 576 24000 (replicate n mpeg) (given-mpeg .known)
+      whole-sheet-alike 1 MpegAudio 576 24000 (replicate n mpeg) (given-mpeg .known)
       (each-replicate (Whole (needOf MpegAudio) (headOf MpegAudio)) mpeg (given-mpeg .whole-frames .0) n)
-      (each-replicate (Same (headOf MpegAudio) 576 24000) mpeg (given-mpeg .one-geometry .0) n)
+      (each-replicate (Same (headOf MpegAudio) 576 24000) mpeg same-mpeg n)
       (omega (arith, length-replicate n mpeg))
 
-  pub sheet-adts : sheetOf 2 (join (replicate n adts)) ≡ frameLines (headOf AacAdts) 0 (replicate n adts) ++ endLine 0 0
+  pub sheet-adts : sheetOf 2 (join (replicate n adts)) ≡ alikeLines (headOf AacAdts) 0 (replicate n adts) ++ endLine 0 0
   sheet-adts =
-      whole-sheet 2 AacAdts 1024 44100 (replicate n adts) (given-adts .known)
+      whole-sheet-alike 2 AacAdts 1024 44100 (replicate n adts) (given-adts .known)
       (each-replicate (Whole (needOf AacAdts) (headOf AacAdts)) adts (given-adts .whole-frames .0) n)
-      (each-replicate (Same (headOf AacAdts) 1024 44100) adts (given-adts .one-geometry .0) n)
+      (each-replicate (Same (headOf AacAdts) 1024 44100) adts same-adts n)
       (omega (arith, length-replicate n adts))
 
 -- and what the lines say, for three ADTS frames
-pub text-adts : frameLines (headOf AacAdts) 0 (adts ∷ adts ∷ adts ∷ []) ++ endLine 0 0
+pub text-adts : alikeLines (headOf AacAdts) 0 (adts ∷ adts ∷ adts ∷ []) ++ endLine 0 0
     ≡ ascii "       1     7  6  1024  44100  2       -                    0\n"
     ++ (ascii "       2     7  6  1024  44100  2       -                 2089\n"
     ++ (ascii "       3     7  6  1024  44100  2       -                 4179\n" ++ ascii
     "E                    0     0\n"))
 unfolding number refuseIf adtsHead adtsJudged adtsHeaderLength headOf decimal right lowDigits line endLine
 text-adts = refl
+
+-- ---- an instance that changes the rate twice
+
+-- the same frame at 8000 Hz
+abbrev pub slow : List ℕ
+slow = 0xFF ∷ 0xF1 ∷ 0x6C ∷ 0x80 ∷ 0x00 ∷ 0xE0 ∷ 0x00 ∷ []
+
+whole-slow : Whole (needOf AacAdts) (headOf AacAdts) slow
+unfolding needOf headOf adtsHead adtsJudged adtsHeaderLength refuseIf number
+whole-slow =
+    record {
+      info = record {
+        kind = AudioFrameKind.AacAdts;
+        «frame_len» = 7;
+        «samples_per_frame» = 1024;
+        «sample_rate» = 8000;
+        channels = 2;
+        «bit_rate» = NoBitRate;
+      };
+      reads = refl;
+      exact = refl;
+      long = lit≤ tt;
+    }
+
+abbrev pub changing : List (List ℕ)
+changing = adts ∷ adts ∷ slow ∷ slow ∷ adts ∷ []
+
+pub sheet-changing : sheetOf 2 (join changing) ≡ sheetLines (headOf AacAdts) changing ++ endLine 0 0
+sheet-changing =
+    whole-sheet 2 AacAdts changing (given-adts .known)
+    (F, (F, (whole-slow, (whole-slow, (F, tt))))) (lit< tt)
+  where
+    F : Whole (needOf AacAdts) (headOf AacAdts) adts
+    F = given-adts .whole-frames .0
+
+-- The third is stamped by the first two's rate, and the fifth by the two before it: 4179 is floor(2 × 1024 × 90,000 /
+-- 44,100), and 27219 is 4179 + 2 × 11,520.
+pub text-changing : sheetLines (headOf AacAdts) changing ++ endLine 0 0
+    ≡ ascii "       1     7  6  1024  44100  2       -                    0\n"
+    ++ (ascii "       2     7  6  1024  44100  2       -                 2089\n"
+    ++ (ascii "       3     7  6  1024   8000  2       -                 4179\n"
+    ++ (ascii "       4     7  6  1024   8000  2       -                15699\n"
+    ++ (ascii "       5     7  6  1024  44100  2       -                27219\n" ++ ascii
+    "E                    0     0\n"))))
+unfolding number refuseIf adtsHead adtsJudged adtsHeaderLength headOf far decimal right lowDigits line endLine
+text-changing = refl

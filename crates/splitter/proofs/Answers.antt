@@ -1,6 +1,6 @@
 -- Tests, answers and outcomes told apart: what two of them that are equal say of each other. Assumes nothing.
-use mathlib.Core.Path.{_≡_, refl, ap}
-use mathlib.Core.Bool.{Bool, true, false, _||_}
+use mathlib.Core.Path.{_≡_, refl, sym, ap}
+use mathlib.Core.Bool.{Bool, true, false, _&&_, _||_}
 use mathlib.Core.List.{List}
 use Prim.Native.Nat.{ℕ, suc}
 use native.Mathlib.Omega.{arith}
@@ -18,6 +18,11 @@ true-false e = let z : _≡_ {A = ℕ} 0 1 = cc in omega arith
 pub neither : (a b : Bool) → (a || b) ≡ false → (a ≡ false) × (b ≡ false)
 neither true b e = absurd (true-false e)
 neither false b e = (refl, e)
+
+-- of two tests both hold
+pub both : (a b : Bool) → (a && b) ≡ true → (a ≡ true) × (b ≡ true)
+both true b e = (refl, e)
+both false b e = absurd (true-false (sym e))
 
 -- of a list of grounds neither the first nor a later one holds
 pub past : (b : Bool) (k r : ℕ) → firstOf b (suc k) r ≡ 0 → (b ≡ false) × (r ≡ 0)

@@ -20,9 +20,9 @@ use Rattle.heads.specs.declared.info.AudioFrameKind.{AudioFrameKind}
 use Rattle.heads.specs.declared.info.BitRate.the-variants.{Coded, Absent as NoBitRate}
 use Rattle.heads.specs.declared.syntax.AudioSyntax.the-variants.{Ac3, MpegAudio, AacAdts}
 use Rattle.splitter.specs.Bounds.{pendingMost, timeMost}
-use Rattle.splitter.specs.Stamp.{Frame, far, farPts, badAnchor, badTiming, manySince, manyFrames, forgotten, give, keep, keepTail, emptied}
+use Rattle.splitter.specs.Stamp.{Frame, far, farPts, badAnchor, badTiming, manySince, manyFrames, forgotten, give, keep, keepTail, emptied, moved, learnt}
 use Rattle.splitter.specs.Push.{Event, event, badState, badCount, tightOf, refusalOf, push}
-use Rattle.splitter.specs.Demand.{tailAt, limit, stamped, Whole, Given3, Meets3}
+use Rattle.splitter.specs.Demand.{stampOf, tailAt, limit, stamped, Whole, Given3, Meets3}
 use Rattle.splitter.specs.declared.timing.Pts.{Pts}
 use Rattle.splitter.specs.declared.timing.Pts.the-variants.{At}
 use Rattle.splitter.proofs.Demand3.{demand3}
@@ -51,7 +51,7 @@ pushes before f a b =
 abbrev pub eac3 : List ℕ
 eac3 = 0x0B ∷ 0x77 ∷ 0x00 ∷ 0x03 ∷ 0x3F ∷ 0x80 ∷ 0x0B ∷ 0x77 ∷ []
 
-whole-eac3 : Whole (needOf Ac3) (headOf Ac3) eac3
+pub whole-eac3 : Whole (needOf Ac3) (headOf Ac3) eac3
 unfolding needOf headOf a52Head byBsid nfchans eac3Judged eac3TailWidths fscod2Bits numblkscodBits refuseIf number
 whole-eac3 =
     record {
@@ -68,13 +68,12 @@ whole-eac3 =
       long = lit≤ tt;
     }
 
-pub given-eac3 : Given3 0 Ac3 1536 48000 (eac3 ∷ eac3 ∷ eac3 ∷ []) (pushes [] eac3 3 7)
-unfolding needOf headOf syntaxOf a52Head byBsid nfchans eac3Judged eac3TailWidths fscod2Bits numblkscodBits refuseIf number far farPts badAnchor badTiming manySince manyFrames forgotten give keep keepTail emptied badState badCount tightOf refusalOf push tailAt limit
+pub given-eac3 : Given3 0 Ac3 (eac3 ∷ eac3 ∷ eac3 ∷ []) (pushes [] eac3 3 7)
+unfolding needOf headOf syntaxOf a52Head byBsid nfchans eac3Judged eac3TailWidths fscod2Bits numblkscodBits refuseIf number far farPts badAnchor badTiming manySince manyFrames forgotten give keep keepTail emptied badState badCount tightOf refusalOf push tailAt limit moved learnt
 given-eac3 =
     record {
       known = refl;
       whole-frames = (whole-eac3, (whole-eac3, (whole-eac3, tt)));
-      one-geometry = ((refl, refl), ((refl, refl), ((refl, refl), tt)));
       some-frame = lit< tt;
       few = lit< tt;
       joins = refl;
@@ -83,12 +82,12 @@ given-eac3 =
     }
 
 pub meets-eac3 : Meets3 0 Ac3 (eac3 ∷ eac3 ∷ eac3 ∷ []) (pushes [] eac3 3 7)
-meets-eac3 = demand3 0 Ac3 1536 48000 (eac3 ∷ eac3 ∷ eac3 ∷ []) (pushes [] eac3 3 7) given-eac3
+meets-eac3 = demand3 0 Ac3 (eac3 ∷ eac3 ∷ eac3 ∷ []) (pushes [] eac3 3 7) given-eac3
 
 pub stamps-eac3 : map (λ (f : Frame). f .stamp)
     (stamped (headOf Ac3) (eac3 ∷ eac3 ∷ eac3 ∷ []) (pushes [] eac3 3 7)) ≡ At (pos 1000) ∷ At (pos 3880) ∷ At
     (pos 4000) ∷ []
-unfolding headOf a52Head byBsid nfchans eac3Judged eac3TailWidths fscod2Bits numblkscodBits refuseIf number far farPts tightOf tailAt limit
+unfolding stampOf headOf a52Head byBsid nfchans eac3Judged eac3TailWidths fscod2Bits numblkscodBits refuseIf number far farPts tightOf tailAt limit
 stamps-eac3 = refl
 
 -- ---- MPEG audio Layer III, a head's bytes standing inside the frame
@@ -97,7 +96,7 @@ abbrev pub mpeg : List ℕ
 mpeg = 0xFF ∷ 0xF3 ∷ 0x14 ∷ 0x00 ∷ 0xFF ∷ 0xF3 ∷ 0x14 ∷ 0x00 ∷ 0x00 ∷ 0x00 ∷ 0x00 ∷ 0x00 ∷ 0x00 ∷ 0x00 ∷ 0x00 ∷ 0x00 ∷
     0x00 ∷ 0x00 ∷ 0x00 ∷ 0x00 ∷ 0x00 ∷ 0x00 ∷ 0x00 ∷ 0x00 ∷ []
 
-whole-mpeg : Whole (needOf MpegAudio) (headOf MpegAudio) mpeg
+pub whole-mpeg : Whole (needOf MpegAudio) (headOf MpegAudio) mpeg
 unfolding needOf headOf mpegHead mpegJudged mpegKbps mpegRate mpegShape layer3Shape mpegChannels refuseIf number
 whole-mpeg =
     record {
@@ -114,13 +113,12 @@ whole-mpeg =
       long = lit≤ tt;
     }
 
-pub given-mpeg : Given3 1 MpegAudio 576 24000 (mpeg ∷ mpeg ∷ mpeg ∷ []) (pushes [] mpeg 2 3)
-unfolding needOf headOf syntaxOf mpegHead mpegJudged mpegKbps mpegRate mpegShape layer3Shape mpegChannels refuseIf number far farPts badAnchor badTiming manySince manyFrames forgotten give keep keepTail emptied badState badCount tightOf refusalOf push tailAt limit
+pub given-mpeg : Given3 1 MpegAudio (mpeg ∷ mpeg ∷ mpeg ∷ []) (pushes [] mpeg 2 3)
+unfolding needOf headOf syntaxOf mpegHead mpegJudged mpegKbps mpegRate mpegShape layer3Shape mpegChannels refuseIf number far farPts badAnchor badTiming manySince manyFrames forgotten give keep keepTail emptied badState badCount tightOf refusalOf push tailAt limit moved learnt
 given-mpeg =
     record {
       known = refl;
       whole-frames = (whole-mpeg, (whole-mpeg, (whole-mpeg, tt)));
-      one-geometry = ((refl, refl), ((refl, refl), ((refl, refl), tt)));
       some-frame = lit< tt;
       few = lit< tt;
       joins = refl;
@@ -129,12 +127,12 @@ given-mpeg =
     }
 
 pub meets-mpeg : Meets3 1 MpegAudio (mpeg ∷ mpeg ∷ mpeg ∷ []) (pushes [] mpeg 2 3)
-meets-mpeg = demand3 1 MpegAudio 576 24000 (mpeg ∷ mpeg ∷ mpeg ∷ []) (pushes [] mpeg 2 3) given-mpeg
+meets-mpeg = demand3 1 MpegAudio (mpeg ∷ mpeg ∷ mpeg ∷ []) (pushes [] mpeg 2 3) given-mpeg
 
 pub stamps-mpeg : map (λ (f : Frame). f .stamp)
     (stamped (headOf MpegAudio) (mpeg ∷ mpeg ∷ mpeg ∷ []) (pushes [] mpeg 2 3)) ≡ At (pos 1000) ∷ At (pos 3160) ∷ At
     (pos 4000) ∷ []
-unfolding headOf mpegHead mpegJudged mpegKbps mpegRate mpegShape layer3Shape mpegChannels refuseIf number far farPts tightOf tailAt limit
+unfolding stampOf headOf mpegHead mpegJudged mpegKbps mpegRate mpegShape layer3Shape mpegChannels refuseIf number far farPts tightOf tailAt limit
 stamps-mpeg = refl
 
 -- ---- ADTS, the frame as short as the need; the pending buffer and the rows too short as well
@@ -148,7 +146,7 @@ short =
     ∷ event adts (At (pos 9)) (replicate pendingMost 4) (replicate 90 0) (replicate 7 (pos 9))
     ∷ []
 
-whole-adts : Whole (needOf AacAdts) (headOf AacAdts) adts
+pub whole-adts : Whole (needOf AacAdts) (headOf AacAdts) adts
 unfolding needOf headOf adtsHead adtsJudged adtsHeaderLength refuseIf number
 whole-adts =
     record {
@@ -165,13 +163,12 @@ whole-adts =
       long = lit≤ tt;
     }
 
-pub given-adts : Given3 2 AacAdts 1024 44100 (adts ∷ adts ∷ adts ∷ []) (pushes short adts 3 6)
-unfolding needOf headOf syntaxOf adtsHead adtsJudged adtsHeaderLength refuseIf number far farPts badAnchor badTiming manySince manyFrames forgotten give keep keepTail emptied badState badCount tightOf refusalOf push tailAt limit
+pub given-adts : Given3 2 AacAdts (adts ∷ adts ∷ adts ∷ []) (pushes short adts 3 6)
+unfolding needOf headOf syntaxOf adtsHead adtsJudged adtsHeaderLength refuseIf number far farPts badAnchor badTiming manySince manyFrames forgotten give keep keepTail emptied badState badCount tightOf refusalOf push tailAt limit moved learnt
 given-adts =
     record {
       known = refl;
       whole-frames = (whole-adts, (whole-adts, (whole-adts, tt)));
-      one-geometry = ((refl, refl), ((refl, refl), ((refl, refl), tt)));
       some-frame = lit< tt;
       few = lit< tt;
       joins = refl;
@@ -180,10 +177,10 @@ given-adts =
     }
 
 pub meets-adts : Meets3 2 AacAdts (adts ∷ adts ∷ adts ∷ []) (pushes short adts 3 6)
-meets-adts = demand3 2 AacAdts 1024 44100 (adts ∷ adts ∷ adts ∷ []) (pushes short adts 3 6) given-adts
+meets-adts = demand3 2 AacAdts (adts ∷ adts ∷ adts ∷ []) (pushes short adts 3 6) given-adts
 
 pub stamps-adts : map (λ (f : Frame). f .stamp)
     (stamped (headOf AacAdts) (adts ∷ adts ∷ adts ∷ []) (pushes short adts 3 6)) ≡ At (pos 1000) ∷ At (pos 3089) ∷ At
     (pos 4000) ∷ []
-unfolding headOf adtsHead adtsJudged adtsHeaderLength refuseIf number far farPts tightOf tailAt limit
+unfolding stampOf headOf adtsHead adtsJudged adtsHeaderLength refuseIf number far farPts tightOf tailAt limit
 stamps-adts = refl

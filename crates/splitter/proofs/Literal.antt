@@ -1,26 +1,29 @@
--- The demand's rule, by P and n, gives what the rule frame by frame gives. Assumes nothing.
+-- ONE SAMPLE COUNT AND ONE RATE. Where all the frames have the same, the rule by P and n gives the stamps that come
+-- payload by payload, and so the demand's. Assumes nothing.
 use mathlib.Core.Path.{_≡_, refl, sym, _∙_, ap, ap₂, subst}
-use mathlib.Core.Bool.{Bool, true, false}
+use mathlib.Core.Bool.{Bool, true, false, _&&_}
 use mathlib.Core.Logic.{_⊎_, inl, inr}
 use mathlib.Core.Option.{Option, none, some}
-use mathlib.Core.List.{List, [], _∷_, _++_, append-nil, append-assoc}
+use mathlib.Core.List.{List, [], _∷_}
 use Prim.Native.Nat.{ℕ, zero, suc, _+_, _-_, _*_, _/_, _≤_, _<_}
 use native.Mathlib.Omega.{arith}
 use native.Mathlib.Nat.{add-zero, add-suc, suc-add, sub-self, zero-mul, zero-div}
 use lib.Dec.{ltb}
-use lib.IntN.{pos, _+ℤ_, +ℤ-idr}
-use lib.ListN.{length, take, drop, getD, length-drop, length-append, take-append-drop}
-use lib.Seq.{length-take-le, take-length, take-take, getD-at}
-use borrow.Author.Tests.{lt-ltb, le-ltb}
+use lib.IntN.{ℤ, pos, _+ℤ_, +ℤ-idr}
+use lib.ListN.{length, take, drop, getD}
+use borrow.Author.Tests.{lt-ltb, le-ltb, eq-eqb}
 use Rattle.heads.specs.declared.info.AudioFrameInfo.{AudioFrameInfo}
 use Rattle.splitter.specs.Cut.{Reader}
+use Rattle.splitter.specs.Stamp.{far}
 use Rattle.splitter.specs.Push.{Event}
-use Rattle.splitter.specs.Demand.{join, infoOr, begun, payloads, framesFrom, Timed, Starts, Point, moved, pointOf, pickPoint, stampFrom, IsPoint}
+use Rattle.splitter.specs.Demand.{join, infoOr, begun, payloads, framesFrom, Timed, Starts, Each, Mark, reached, anchored, counted, turnE, tickE, stampOf}
+use Rattle.splitter.specs.Alike.{Same, Point, moved, pointOf, pickPoint, stampFrom, IsPoint}
 use Rattle.splitter.specs.declared.timing.Pts.{Pts}
 use Rattle.splitter.specs.declared.timing.Pts.the-variants.{At, Absent}
 use Rattle.splitter.proofs.Lists.{le-or-lt, nil-of}
-use Rattle.splitter.proofs.Places.{Solid, begun-le, begun-mono, begun-yes, begun-after, begun-zero}
-use Rattle.splitter.proofs.Marks.{Mark, stampsE, ticksE, infos, stampsOf}
+use Rattle.splitter.proofs.Places.{Solid, begun-mono, begun-yes}
+use Rattle.splitter.proofs.Marks.{stampsE, ticksE, infos, commencing, stampsOf}
+use Rattle.splitter.proofs.Numbered.{between, between-count, table, tabled, numbered}
 
 -- the point of a frame that has begun is what it is; of one that has not, it moves
 point-now : (A : List (List ℕ)) (x : ℕ) (es : List Event) (q : Option Point) (j : ℕ) → j < begun A x
@@ -33,222 +36,207 @@ point-later : (A : List (List ℕ)) (x : ℕ) (e : Event) (es : List Event) (q :
     (moved (ltb (begun A x) (begun A (x + length (e .payload)))) (e .time) (begun A x) q) j
 point-later A x e es q j h = rw (le-ltb j (begun A x) h)
 
-no-segment : (A : List (List ℕ)) (a : ℕ) → drop a (take a A) ≡ []
-no-segment A zero = refl
-no-segment [] (suc a) = refl
-no-segment (f ∷ A) (suc a) = no-segment A a
+-- ---- frames alike
 
-segment : (A : List (List ℕ)) (a b c : ℕ) → a ≤ b → b ≤ c → drop a (take b A) ++ drop b (take c A) ≡ drop a (take c A)
-segment A zero b c h k =
-    ap (λ (l : List (List ℕ)). l ++ drop b (take c A)) (sym (take-take b c A k)) ∙ take-append-drop b (take c A)
-segment A (suc a) zero c h k = absurd (omega arith)
-segment A (suc a) (suc b) zero h k = absurd (omega arith)
-segment [] (suc a) (suc b) (suc c) h k = refl
-segment (f ∷ A) (suc a) (suc b) (suc c) h k = segment A a b c (omega arith) (omega arith)
+module _ (rd : Reader) (sm rt : ℕ) where
+  each-take : (k : ℕ) (X : List (List ℕ)) → Each (Same rd sm rt) X → Each (Same rd sm rt) (take k X)
+  each-take zero X g = tt
+  each-take (suc k) [] g = tt
+  each-take (suc k) (f ∷ X) g = (g .0, each-take k X (g .1))
 
--- the mark and the point, J frames having begun
-abbrev Match : Option Mark → Option Point → ℕ → Type 0
-Match none none J = Unit {0}
-Match none (some q) J = ⊥
-Match (some m) none J = ⊥
-Match (some m) (some q) J = (m .time ≡ q .time) × (m .since + q .first ≡ J)
+  each-drop : (k : ℕ) (X : List (List ℕ)) → Each (Same rd sm rt) X → Each (Same rd sm rt) (drop k X)
+  each-drop zero X g = g
+  each-drop (suc k) [] g = tt
+  each-drop (suc k) (f ∷ X) g = each-drop k X (g .1)
 
-module _ (rd : Reader) (ρ : ℕ → AudioFrameInfo → Pts) where
-  -- ρ's stamps of a list of frames from J on
-  abbrev table : ℕ → List (List ℕ) → List Pts
-  table J [] = []
-  table J (f ∷ fs) = ρ J (infoOr (rd f)) ∷ table (suc J) fs
+  -- such a frame never changes the geometry of the frames since the anchor
+  goes-on : (m : Mark) (f : List ℕ) → Same rd sm rt f → m .samples ≡ sm → m .rate ≡ rt
+      → tickE Absent (some m) (infoOr (rd f)) ≡ some (counted m)
+  goes-on m f g p q =
+      ap (λ (b : Bool). turnE b (far (reached m)) m (infoOr (rd f)))
+      (ap₂ _&&_ (eq-eqb (m .samples) (infoOr (rd f) .«samples_per_frame») (p ∙ sym (g .0)))
+      (eq-eqb (m .rate) (infoOr (rd f) .«sample_rate») (q ∙ sym (g .1))))
 
-  table-append : (J : ℕ) (X Y : List (List ℕ)) → table J (X ++ Y) ≡ table J X ++ table (J + length X) Y
-  table-append J [] Y = rw (add-zero J)
-  table-append J (f ∷ X) Y = rw (table-append (suc J) X Y, add-suc J (length X), suc-add J (length X))
+  -- the mark and the point, J frames having begun
+  abbrev Match : Option Mark → Option Point → ℕ → Type 0
+  Match none none J = Unit {0}
+  Match none (some q) J = ⊥
+  Match (some m) none J = ⊥
+  Match (some m) (some q) J =
+      (m .time ≡ q .time) × (m .since + q .first ≡ J) × (m .samples ≡ sm) × (m .rate ≡ rt)
 
-  -- with no timestamp in hand
-  plain : (K : List (List ℕ)) (m : Option Mark) (q : Option Point) (J : ℕ) → Match m q J
-      → ((j : ℕ) → J ≤ j → j < J + length K → (i : AudioFrameInfo) → ρ j i ≡ stampFrom q j i)
-      → stampsE Absent m (infos rd K) ≡ table J K
-  plain [] m q J r s = refl
-  plain (f ∷ K) none none J r s =
-      ap₂ (λ (v : Pts) (l : List Pts). v ∷ l) (sym (s J (omega arith) (omega arith) (infoOr (rd f))))
-      (plain K none none (suc J) tt (λ j a b. s j (omega arith) (omega arith)))
-  plain (f ∷ K) none (some q) J r s = absurd r
-  plain (f ∷ K) (some m) none J r s = absurd r
-  plain (f ∷ K) (some m) (some q) J r s =
-      ap₂ (λ (v : Pts) (l : List Pts). v ∷ l)
-      ((λ t. At (r .0 t +ℤ pos (n-is t * infoOr (rd f) .«samples_per_frame» * 90000 / infoOr (rd f) .«sample_rate»)))
-      ∙ sym (s J (omega arith) (omega arith) (infoOr (rd f))))
-      (plain K (some (record {
-        time = m .time;
-        since = suc (m .since);
-      })) (some q) (suc J) (r .0, omega (arith, r .1)) (λ j a b. s j (omega arith) (omega arith)))
-    where
-      n-is : m .since ≡ J - q .first
-      n-is = omega (arith, r .1)
+  -- a frame more
+  match-counted : (m : Mark) (q : Point) (J : ℕ) (f : List ℕ) → Same rd sm rt f → Match (some m) (some q) J
+      → Match (tickE Absent (some m) (infoOr (rd f))) (some q) (suc J)
+  match-counted m q J f g r =
+      subst (λ (k : Option Mark). Match k (some q) (suc J)) (sym (goes-on m f g (r .2) (r .3)))
+      (r .0, omega (arith, r .1), r .2, r .3)
 
-  -- the frames K of one payload, at least one
-  payload-run : (t : Pts) (K : List (List ℕ)) (m : Option Mark) (q : Option Point) (J : ℕ) → 0 < length K → Match m q J
-      → ((j : ℕ) → J ≤ j → j < J + length K → (i : AudioFrameInfo) → ρ j i ≡ stampFrom (moved true t J q) j i)
-      → stampsE t m (infos rd K) ≡ table J K
-  payload-run Absent K m q J p r s = plain K m q J r s
-  payload-run (At t) [] m q J p r s = absurd (omega arith)
-  payload-run (At t) (f ∷ K) m q J p r s =
-      ap₂ (λ (v : Pts) (l : List Pts). v ∷ l) (first ∙ sym (s J (omega arith) (omega arith) (infoOr (rd f))))
-      (plain K (some (record {
-        time = t;
-        since = 1;
-      })) (some (record {
-        time = t;
-        first = J;
-      })) (suc J) (refl, omega arith) (λ j a b. s j (omega arith) (omega arith)))
-    where
-      first : At t ≡ At (t +ℤ pos ((J - J) * infoOr (rd f) .«samples_per_frame» * 90000 / infoOr (rd f) .«sample_rate»))
-      first = rw (
-        sub-self J,
-        zero-mul (infoOr (rd f) .«samples_per_frame»),
-        zero-div (infoOr (rd f) .«sample_rate»),
-      ) (ap At (sym (+ℤ-idr t)))
+  match-anchored : (t : ℤ) (J : ℕ) (f : List ℕ) → Same rd sm rt f
+      → Match (some (anchored t (infoOr (rd f)))) (some (record { time = t; first = J })) (suc J)
+  match-anchored t J f g = (refl, omega arith, g .0, g .1)
 
-  match-plain : (K : List (List ℕ)) (m : Option Mark) (q : Option Point) (J : ℕ) → Match m q J
-      → Match (ticksE Absent m (infos rd K)) q (J + length K)
-  match-plain [] m q J r = rw (add-zero J) r
-  match-plain (f ∷ K) none none J r = rw (
+  -- behind the frames of a payload
+  match-plain : (K : List (List ℕ)) → Each (Same rd sm rt) K → (m : Option Mark) (q : Option Point) (J : ℕ)
+      → Match m q J → Match (ticksE Absent m (infos rd K)) q (J + length K)
+  match-plain [] g m q J r = rw (add-zero J) r
+  match-plain (f ∷ K) g none none J r = rw (
     add-suc J (length K),
     ← suc-add J (length K),
-  ) (match-plain K none none (suc J) tt)
-  match-plain (f ∷ K) none (some q) J r = absurd r
-  match-plain (f ∷ K) (some m) none J r = absurd r
-  match-plain (f ∷ K) (some m) (some q) J r =
-      rw (
-        add-suc J (length K),
-        ← suc-add J (length K),
-      ) (match-plain K (some (record {
-        time = m .time;
-        since = suc (m .since);
-      })) (some q) (suc J) (r .0, omega (arith, r .1)))
+  ) (match-plain K (g .1) none none (suc J) tt)
+  match-plain (f ∷ K) g none (some q) J r = absurd r
+  match-plain (f ∷ K) g (some m) none J r = absurd r
+  match-plain (f ∷ K) g (some m) (some q) J r =
+      rw (add-suc J (length K), ← suc-add J (length K))
+      (match-plain K (g .1) (tickE Absent (some m) (infoOr (rd f))) (some q) (suc J) (match-counted m q J f (g .0) r))
 
-  match-next : (t : Pts) (K : List (List ℕ)) (m : Option Mark) (q : Option Point) (J : ℕ) → 0 < length K → Match m q J
-      → Match (ticksE t m (infos rd K)) (moved true t J q) (J + length K)
-  match-next Absent K m q J p r = match-plain K m q J r
-  match-next (At t) [] m q J p r = absurd (omega arith)
-  match-next (At t) (f ∷ K) m q J p r =
-      rw (
-        add-suc J (length K),
-        ← suc-add J (length K),
-      ) (match-plain K (some (record {
-        time = t;
-        since = 1;
-      })) (some (record { time = t; first = J })) (suc J) (refl, omega arith))
+  match-next : (t : Pts) (K : List (List ℕ)) → Each (Same rd sm rt) K → (m : Option Mark) (q : Option Point) (J : ℕ)
+      → 0 < length K → Match m q J → Match (ticksE t m (infos rd K)) (moved true t J q) (J + length K)
+  match-next Absent K g m q J p r = match-plain K g m q J r
+  match-next (At t) [] g m q J p r = absurd (omega arith)
+  match-next (At t) (f ∷ K) g m q J p r =
+      rw (add-suc J (length K), ← suc-add J (length K))
+      (match-plain K (g .1) (some (anchored t (infoOr (rd f)))) (some (record { time = t; first = J })) (suc J)
+      (match-anchored t J f (g .0)))
+
+  module _ (ρ : ℕ → AudioFrameInfo → Pts) where
+    -- the stamps of the frames of a payload, with no timestamp in hand
+    plain : (K : List (List ℕ)) → Each (Same rd sm rt) K → (m : Option Mark) (q : Option Point) (J : ℕ) → Match m q J
+        → ((j : ℕ) → J ≤ j → j < J + length K → (i : AudioFrameInfo) → ρ j i ≡ stampFrom q j i)
+        → stampsE Absent m (infos rd K) ≡ table rd ρ J K
+    plain [] g m q J r s = refl
+    plain (f ∷ K) g none none J r s =
+        ap₂ (λ (v : Pts) (l : List Pts). v ∷ l) (sym (s J (omega arith) (omega arith) (infoOr (rd f))))
+        (plain K (g .1) none none (suc J) tt (λ j a b. s j (omega arith) (omega arith)))
+    plain (f ∷ K) g none (some q) J r s = absurd r
+    plain (f ∷ K) g (some m) none J r s = absurd r
+    plain (f ∷ K) g (some m) (some q) J r s =
+        ap₂ (λ (v : Pts) (l : List Pts). v ∷ l)
+        ((λ t. At (r .0 t +ℤ pos (n-is t * samples-are t * 90000 / rate-is t)))
+        ∙ sym (s J (omega arith) (omega arith) (infoOr (rd f))))
+        (plain K (g .1) (tickE Absent (some m) (infoOr (rd f))) (some q) (suc J) (match-counted m q J f (g .0) r)
+        (λ j a b. s j (omega arith) (omega arith)))
+      where
+        n-is : m .since ≡ J - q .first
+        n-is = omega (arith, r .1)
+
+        samples-are : m .samples ≡ infoOr (rd f) .«samples_per_frame»
+        samples-are = r .2 ∙ sym (g .0 .0)
+
+        rate-is : m .rate ≡ infoOr (rd f) .«sample_rate»
+        rate-is = r .3 ∙ sym (g .0 .1)
+
+    -- the frames K of one payload, at least one
+    payload-run : (t : Pts) (K : List (List ℕ)) → Each (Same rd sm rt) K → (m : Option Mark) (q : Option Point) (J : ℕ)
+        → 0 < length K → Match m q J
+        → ((j : ℕ) → J ≤ j → j < J + length K → (i : AudioFrameInfo) → ρ j i ≡ stampFrom (moved true t J q) j i)
+        → stampsE t m (infos rd K) ≡ table rd ρ J K
+    payload-run Absent K g m q J p r s = plain K g m q J r s
+    payload-run (At t) [] g m q J p r s = absurd (omega arith)
+    payload-run (At t) (f ∷ K) g m q J p r s =
+        ap₂ (λ (v : Pts) (l : List Pts). v ∷ l) (first ∙ sym (s J (omega arith) (omega arith) (infoOr (rd f))))
+        (plain K (g .1) (some (anchored t (infoOr (rd f)))) (some (record { time = t; first = J })) (suc J)
+        (match-anchored t J f (g .0)) (λ j a b. s j (omega arith) (omega arith)))
+      where
+        first : At t
+            ≡ At (t +ℤ pos ((J - J) * infoOr (rd f) .«samples_per_frame» * 90000 / infoOr (rd f) .«sample_rate»))
+        first = rw (
+          sub-self J,
+          zero-mul (infoOr (rd f) .«samples_per_frame»),
+          zero-div (infoOr (rd f) .«sample_rate»),
+        ) (ap At (sym (+ℤ-idr t)))
 
   -- ---- all the payloads
 
-  all-tables : (A : List (List ℕ)) (es : List Event) (x : ℕ) (m : Option Mark) (q : Option Point)
-      → Match m q (begun A x)
-      → ((j : ℕ) → begun A x ≤ j → (i : AudioFrameInfo) → ρ j i ≡ stampFrom (pointOf A x es q j) j i)
-      → stampsOf rd A x es m ≡ table (begun A x) (drop (begun A x) (take (begun A (x + length (join (payloads es)))) A))
-  all-tables A [] x m q r s = rw (add-zero x, no-segment A (begun A x))
-  all-tables A (e ∷ es) x m q r s =
-      ap₂ (λ (k l : List Pts). k ++ l) (here (le-or-lt (length K) 0))
-      (all-tables A es y (ticksE (e .time) m (infos rd K)) Q (next (le-or-lt (length K) 0)) says-next)
-      ∙ ap (λ (k : ℕ). table J K ++ table k (drop (begun A y) (take (begun A (y + length (join (payloads es)))) A)))
-      K-length
-      ∙ sym (table-append J K (drop (begun A y) (take (begun A (y + length (join (payloads es)))) A)))
-      ∙ ap (table J) (segment A J (begun A y) (begun A (y + length (join (payloads es)))) mono
-      (begun-mono A y (y + length (join (payloads es))) (omega arith)))
-      ∙ ap (λ (k : ℕ). table J (drop J (take (begun A k) A)))
-      (let z : y + length (join (payloads es)) ≡ x + length (e .payload ++ join (payloads es)) = omega (
-        arith,
-        length-append (e .payload) (join (payloads es)),
-      ) in z)
-    where
-      y : ℕ
-      y = x + length (e .payload)
+  module _ (A : List (List ℕ)) (alike : Each (Same rd sm rt) A) (ρ : ℕ → AudioFrameInfo → Pts) where
+    -- at the place x: a point that matches the mark, and from which ρ's stamps are those of the events left
+    record Kept (x : ℕ) (left : List Event) (m : Option Mark) : Type 0 where
+      point : Option Point
+      matches : Match m point (begun A x)
+      says : (j : ℕ) → begun A x ≤ j → (i : AudioFrameInfo) → ρ j i ≡ stampFrom (pointOf A x left point j) j i
 
-      J : ℕ
-      J = begun A x
+    step : (x : ℕ) (e : Event) (es : List Event) (m : Option Mark) → Kept x (e ∷ es) m
+        → (stampsE (e .time) m (commencing rd A x (x + length (e .payload)))
+        ≡ table rd ρ (begun A x) (between A x (x + length (e .payload))))
+        × Kept (x + length (e .payload)) es (ticksE (e .time) m (commencing rd A x (x + length (e .payload))))
+    step x e es m k = (
+      here (le-or-lt (length K) 0),
+      record {
+        point = Q;
+        matches = next (le-or-lt (length K) 0);
+        says = λ j a i. later j (omega (arith, mono, a)) i;
+      },
+    )
+      where
+        K : List (List ℕ)
+        K = between A x (x + length (e .payload))
 
-      K : List (List ℕ)
-      K = drop (begun A x) (take (begun A (x + length (e .payload))) A)
+        Q : Option Point
+        Q = moved (ltb (begun A x) (begun A (x + length (e .payload)))) (e .time) (begun A x) (k .point)
 
-      Q : Option Point
-      Q = moved (ltb (begun A x) (begun A (x + length (e .payload)))) (e .time) (begun A x) q
+        K-alike : Each (Same rd sm rt) K
+        K-alike = each-drop (begun A x) (take (begun A (x + length (e .payload))) A)
+            (each-take (begun A (x + length (e .payload))) A alike)
 
-      mono : begun A x ≤ begun A (x + length (e .payload))
-      mono = begun-mono A x (x + length (e .payload)) (omega arith)
+        mono : begun A x ≤ begun A (x + length (e .payload))
+        mono = begun-mono A x (x + length (e .payload)) (omega arith)
 
-      K-size : length K ≡ begun A (x + length (e .payload)) - begun A x
-      K-size = length-drop (begun A x) (take (begun A (x + length (e .payload))) A) ∙ ap (λ (k : ℕ). k - begun A x)
-          (length-take-le (begun A (x + length (e .payload))) A (begun-le A (x + length (e .payload))))
+        K-length : begun A (x + length (e .payload)) ≡ begun A x + length K
+        K-length = between-count A x (x + length (e .payload)) (omega arith)
 
-      K-length : begun A (x + length (e .payload)) ≡ begun A x + length K
-      K-length = omega (arith, K-size, mono)
+        later : (j : ℕ) → begun A x ≤ j → (i : AudioFrameInfo)
+            → ρ j i ≡ stampFrom (pointOf A (x + length (e .payload)) es Q j) j i
+        later j a i = k .says j a i ∙ ap (λ (p : Option Point). stampFrom p j i) (point-later A x e es (k .point) j a)
 
-      later : (j : ℕ) → begun A x ≤ j → (i : AudioFrameInfo)
-          → ρ j i ≡ stampFrom (pointOf A (x + length (e .payload)) es Q j) j i
-      later j a i = s j a i ∙ ap (λ (p : Option Point). stampFrom p j i) (point-later A x e es q j a)
+        says-here : (j : ℕ) → begun A x ≤ j → j < begun A x + length K → (i : AudioFrameInfo) → ρ j i ≡ stampFrom Q j i
+        says-here j a b i =
+            later j a i ∙ ap (λ (p : Option Point). stampFrom p j i)
+            (point-now A (x + length (e .payload)) es Q j (omega (arith, K-length)))
 
-      says-next : (j : ℕ) → begun A (x + length (e .payload)) ≤ j → (i : AudioFrameInfo)
-          → ρ j i ≡ stampFrom (pointOf A (x + length (e .payload)) es Q j) j i
-      says-next j a i = later j (omega (arith, mono, a)) i
+        Q-moves : 0 < length K → Q ≡ moved true (e .time) (begun A x) (k .point)
+        Q-moves h =
+            ap (λ (b : Bool). moved b (e .time) (begun A x) (k .point))
+            (lt-ltb (begun A x) (begun A (x + length (e .payload))) (omega (arith, K-length)))
 
-      says-here : (j : ℕ) → begun A x ≤ j → j < begun A x + length K → (i : AudioFrameInfo) → ρ j i ≡ stampFrom Q j i
-      says-here j a b i =
-          later j a i ∙ ap (λ (p : Option Point). stampFrom p j i)
-          (point-now A (x + length (e .payload)) es Q j (omega (arith, K-length)))
+        Q-stays : length K ≤ 0 → Q ≡ k .point
+        Q-stays h =
+            ap (λ (b : Bool). moved b (e .time) (begun A x) (k .point))
+            (le-ltb (begun A x) (begun A (x + length (e .payload))) (omega (arith, K-length)))
 
-      Q-moves : 0 < length K → Q ≡ moved true (e .time) (begun A x) q
-      Q-moves h =
-          ap (λ (b : Bool). moved b (e .time) (begun A x) q)
-          (lt-ltb (begun A x) (begun A (x + length (e .payload))) (omega (arith, K-length)))
+        here : (length K ≤ 0) ⊎ (0 < length K) → stampsE (e .time) m (infos rd K) ≡ table rd ρ (begun A x) K
+        here (inl h) = rw (nil-of K (omega arith))
+        here (inr h) =
+            payload-run ρ (e .time) K K-alike m (k .point) (begun A x) h (k .matches)
+            (subst (λ (p : Option Point). (j : ℕ) → begun A x ≤ j → j < begun A x + length K → (i : AudioFrameInfo)
+            → ρ j i ≡ stampFrom p j i) (Q-moves h) says-here)
 
-      Q-stays : length K ≤ 0 → Q ≡ q
-      Q-stays h =
-          ap (λ (b : Bool). moved b (e .time) (begun A x) q)
-          (le-ltb (begun A x) (begun A (x + length (e .payload))) (omega (arith, K-length)))
+        next : (length K ≤ 0) ⊎ (0 < length K)
+            → Match (ticksE (e .time) m (infos rd K)) Q (begun A (x + length (e .payload)))
+        next (inl h) =
+            rw (nil-of K (omega arith), Q-stays h)
+            (subst (Match m (k .point))
+            (let z : begun A x ≡ begun A (x + length (e .payload)) = omega (arith, K-length) in z) (k .matches))
+        next (inr h) =
+            rw (Q-moves h)
+            (subst (Match (ticksE (e .time) m (infos rd K)) (moved true (e .time) (begun A x) (k .point)))
+            (sym K-length) (match-next (e .time) K K-alike m (k .point) (begun A x) h (k .matches)))
 
-      here : (length K ≤ 0) ⊎ (0 < length K) → stampsE (e .time) m (infos rd K) ≡ table (begun A x) K
-      here (inl h) = rw (nil-of K (omega arith))
-      here (inr h) =
-          payload-run (e .time) K m q (begun A x) h r
-          (subst (λ (p : Option Point). (j : ℕ) → begun A x ≤ j → j < begun A x + length K → (i : AudioFrameInfo)
-          → ρ j i ≡ stampFrom p j i) (Q-moves h) says-here)
+  pub literal : (A : List (List ℕ)) → Each (Same rd sm rt) A → Solid A → (es : List Event)
+      → join (payloads es) ≡ join A
+      → framesFrom rd (λ j i. getD (stampsOf rd A 0 es none) j Absent) 0 A
+      ≡ framesFrom rd (λ j i. stampFrom (pointOf A 0 es none j) j i) 0 A
+  literal A alike g es q =
+      tabled rd (λ j i. stampFrom (pointOf A 0 es none j) j i) A
+      (Kept A alike (λ j i. stampFrom (pointOf A 0 es none j) j i))
+      (step A alike (λ j i. stampFrom (pointOf A 0 es none j) j i)) g es q
+      (record { point = none; matches = tt; says = λ j a i. refl })
 
-      next : (length K ≤ 0) ⊎ (0 < length K)
-          → Match (ticksE (e .time) m (infos rd K)) Q (begun A (x + length (e .payload)))
-      next (inl h) =
-          rw (nil-of K (omega arith), Q-stays h)
-          (subst (Match m q) (let z : begun A x ≡ begun A (x + length (e .payload)) = omega (arith, K-length) in z) r)
-      next (inr h) =
-          rw (Q-moves h) (subst (Match (ticksE (e .time) m (infos rd K)) (moved true (e .time) (begun A x) q))
-          (sym K-length) (match-next (e .time) K m q (begun A x) h r))
-
-  -- frames by a list of stamps
-  frames-table : (A : List (List ℕ)) (L P : List Pts) (J : ℕ) → length P ≡ J → L ≡ P ++ table J A
-      → framesFrom rd (λ j i. getD L j Absent) J A ≡ framesFrom rd ρ J A
-  frames-table [] L P J p q = refl
-  frames-table (f ∷ A) L P J p q =
-      rw (
-        frames-table A L (P ++ (ρ J (infoOr (rd f)) ∷ [])) (suc J) (omega (
-          arith,
-          length-append P (ρ J (infoOr (rd f)) ∷ []),
-        )) (q ∙ sym (append-assoc P (ρ J (infoOr (rd f)) ∷ []) (table (suc J) A))),
-        (ap (λ (l : List Pts). getD l J Absent) q ∙ getD-at P (ρ J (infoOr (rd f))) (table (suc J) A) Absent J p),
-      )
-
-  pub literal : (A : List (List ℕ)) → Solid A → (es : List Event) → join (payloads es) ≡ join A
-      → ((j : ℕ) (i : AudioFrameInfo) → ρ j i ≡ stampFrom (pointOf A 0 es none j) j i)
-      → framesFrom rd (λ j i. getD (stampsOf rd A 0 es none) j Absent) 0 A ≡ framesFrom rd ρ 0 A
-  literal A g es q s =
-      frames-table A (stampsOf rd A 0 es none) [] 0 refl (all-tables A es 0 none none tt (λ j a i. s j i) ∙ ends)
-    where
-      full : begun A (0 + length (join (payloads es))) ≡ length A
-      full =
-          ap₂ begun (sym (append-nil A)) (let z : 0 + length (join (payloads es)) ≡ length (join A) + 0 = omega
-          (arith, ap length q) in z)
-          ∙ begun-after A [] 0 g
-          ∙ add-zero (length A)
-
-      ends : table (begun A 0) (drop (begun A 0) (take (begun A (0 + length (join (payloads es)))) A)) ≡ table 0 A
-      ends = rw (full, begun-zero A) (ap (table 0) (take-length A))
+  -- the demand's stamps by P and n
+  pub alike-stamps : (A : List (List ℕ)) → Each (Same rd sm rt) A → Solid A → (es : List Event)
+      → join (payloads es) ≡ join A
+      → framesFrom rd (λ j i. stampOf rd A es j) 0 A
+      ≡ framesFrom rd (λ j i. stampFrom (pointOf A 0 es none j) j i) 0 A
+  alike-stamps A alike g es q = sym (numbered rd A g es q) ∙ literal A alike g es q
 
 -- once there is a point there always is one
 still-point : (A : List (List ℕ)) (x : ℕ) (es : List Event) (m : Point) (j : ℕ) → IsPoint (pointOf A x es (some m) j)

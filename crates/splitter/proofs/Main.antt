@@ -23,7 +23,7 @@ use Rattle.splitter.specs.Cut.{Reader, walk}
 use Rattle.splitter.specs.Stamp.{Frame, Yield, farPts, manyFrames, clockWith, stampCuts}
 use Rattle.splitter.specs.Answer.{refused, done}
 use Rattle.splitter.specs.Push.{Event, Outcome, refusal, bytesOf, row, rowsOf, over, anyFrame, stay, finish, clockOf, cutsBy, admits, push, run, final}
-use Rattle.splitter.specs.Demand.{join, Each, begun, whole, tailAt, limit, within, Timed, Starts, framesFrom, Seen, seen, seenTaken, seenRefused, part, owed, payloads, outputs, allRows, Carried}
+use Rattle.splitter.specs.Demand.{join, Each, begun, whole, tailAt, limit, within, Timed, Starts, framesFrom, Seen, seen, seenTaken, seenRefused, part, owed, payloads, outputs, allRows, Carried, Mark}
 use Rattle.splitter.specs.declared.timing.Pts.{Pts}
 use Rattle.splitter.specs.declared.timing.Pts.the-variants.{Absent}
 use Rattle.splitter.specs.declared.state.AudioFrameSplitter.{AudioFrameSplitter}
@@ -31,7 +31,7 @@ use Rattle.splitter.proofs.Account.{rows-size}
 use Rattle.splitter.proofs.Lists.{le-or-lt, nil-of}
 use Rattle.splitter.proofs.Cutting.{cutsOf, cutting, next-reads}
 use Rattle.splitter.proofs.Places.{Solid, Part, rest, whole-after, begun-after, begun-zero, begun-yes, begun-part, begun-le, begun-mono, whole-part, whole-le, tail-after, tail-part, join-append, join-length, rest-joins, rest-part, rest-size, tail-rest, no-loss}
-use Rattle.splitter.proofs.Marks.{Mark, stampsE, ticksE, infos, stamps-length, infos-length, commencing, stampsOf}
+use Rattle.splitter.proofs.Marks.{stampsE, ticksE, infos, stamps-length, infos-length, commencing, stampsOf}
 use Rattle.splitter.proofs.Rule.{Basis, W as Fine, whole-of, FineA, FineM, timing-fine, fine-many}
 use Rattle.splitter.proofs.Stamping.{Says, Left, AsOwed, News, stamping, part-frames, frames-append}
 use Rattle.splitter.proofs.Calls.{push-turned, push-taken, within-yes, within-no, owed-yes, owed-no, refusal-is-limit, admits-locked, admits-pending, admits-head, limit-time}

@@ -1,36 +1,45 @@
--- THE DEMAND'S RULE FRAME BY FRAME. The demand says each stamp by P and n; here the same stamps come one after the
--- other, each from the mark that the frame before left. It knows the demand and not the splitter; `Literal` shows that
--- both ways agree. Assumes nothing.
+-- THE DEMAND'S RULE PAYLOAD BY PAYLOAD. The demand says the stamp of frame j by its number; here the stamps of the frames
+-- that commence in a payload come in a list, one payload after the other. It knows the demand and not the splitter;
+-- `Numbered` shows that both ways agree. Assumes nothing.
 use mathlib.Core.Path.{_≡_, refl, ap}
+use mathlib.Core.Bool.{Bool, true, false}
 use mathlib.Core.Option.{Option, none, some}
 use mathlib.Core.List.{List, [], _∷_, _++_}
-use Prim.Native.Nat.{ℕ, suc, _+_, _*_, _/_}
-use lib.IntN.{ℤ, pos, _+ℤ_}
+use Prim.Native.Nat.{ℕ, suc, _+_}
+use lib.Dec.{eqb}
 use lib.ListN.{length, take, drop, getD}
+use borrow.Author.Tests.{eqb-true}
 use Rattle.heads.specs.declared.info.AudioFrameInfo.{AudioFrameInfo}
 use Rattle.splitter.specs.Cut.{Reader}
-use Rattle.splitter.specs.Stamp.{Frame}
+use Rattle.splitter.specs.Stamp.{Frame, far}
 use Rattle.splitter.specs.Push.{Event}
-use Rattle.splitter.specs.Demand.{infoOr, begun, within, framesFrom}
+use Rattle.splitter.specs.Demand.{infoOr, begun, within, framesFrom, Timed, Mark, reached, stampE, agrees, turnE, tickE}
 use Rattle.splitter.specs.declared.timing.Pts.{Pts}
 use Rattle.splitter.specs.declared.timing.Pts.the-variants.{At, Absent}
+use Rattle.splitter.proofs.Answers.{both}
 
--- P, and how many frames came since the first that commences in P's payload
-pub record Mark : Type 0 where
-  pub time : ℤ
-  pub since : ℕ
+-- ---- the geometry
 
--- the stamp of a frame; the first argument is the timestamp of its payload, while no frame has used it
-abbrev pub stampE : Pts → Option Mark → AudioFrameInfo → Pts
-stampE (At t) m i = At t
-stampE Absent none i = Absent
-stampE Absent (some m) i = At (m .time +ℤ pos (m .since * i .«samples_per_frame» * 90000 / i .«sample_rate»))
+-- a mark that holds the geometry of a frame which has a stamp
+abbrev pub Own : Option Mark → AudioFrameInfo → Pts → Type 0
+Own none i v = Unit {0}
+Own (some m) i v = (m .samples ≡ i .«samples_per_frame») × (m .rate ≡ i .«sample_rate») × Timed v
 
--- the mark after a frame
-abbrev pub tickE : Pts → Option Mark → AudioFrameInfo → Option Mark
-tickE (At t) m i = some (record { time = t; since = 1 })
-tickE Absent none i = none
-tickE Absent (some m) i = some (record { time = m .time; since = suc (m .since) })
+-- behind a frame the mark holds the frame's geometry
+turn-own : (same out : Bool) (m : Mark) (i : AudioFrameInfo) → agrees (m .samples) (m .rate) i ≡ same
+    → Own (turnE same out m i) i (At (reached m))
+turn-own true out m i e =
+    let b = both (eqb (m .samples) (i .«samples_per_frame»)) (eqb (m .rate) (i .«sample_rate»)) e in
+    (eqb-true (m .samples) (i .«samples_per_frame») (b .0), eqb-true (m .rate) (i .«sample_rate») (b .1), tt)
+turn-own false true m i e = tt
+turn-own false false m i e = (refl, refl, tt)
+
+pub tick-own : (t : Pts) (μ : Option Mark) (i : AudioFrameInfo) → Own (tickE t μ i) i (stampE t μ i)
+tick-own (At t) μ i = (refl, refl, tt)
+tick-own Absent none i = tt
+tick-own Absent (some m) i = turn-own (agrees (m .samples) (m .rate) i) (far (reached m)) m i refl
+
+-- ---- in a list
 
 -- what is left of the timestamp after a frame: nothing
 abbrev pub spentE : Pts → AudioFrameInfo → Pts

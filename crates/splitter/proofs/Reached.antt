@@ -144,7 +144,7 @@ called-sound s (pushing e) h =
 called-sound s (flushing e) h =
     flush-cases s e (λ o. badState (o .state) ≡ false) (λ k. h) (λ x g known q t. h)
     (λ x i known q t. sound-of _ (omega arith)
-    (within-sound _ (within-flushed i (within-held (s .timing) (state-sound s h)))))
+    (within-sound _ (within-flushed i (within-held (s .timing) (state-sound s h)) (samples-most x _ i t))))
 called-sound s resetting h = sound-of _ (omega arith) (within-sound _ within-forgotten)
 called-sound s unlocking h = sound-of _ (omega arith) (within-sound _ within-forgotten)
 

@@ -15,14 +15,14 @@ use borrow.Author.Tests.{ltb-true}
 use Rattle.heads.specs.declared.info.AudioFrameInfo.{AudioFrameInfo}
 use Rattle.splitter.specs.Cut.{Reader}
 use Rattle.splitter.specs.Stamp.{Frame, Yield, farPts, clockWith, ahead, stampCuts}
-use Rattle.splitter.specs.Demand.{Each, infoOr, whole, begun, framesFrom, Timed, part}
+use Rattle.splitter.specs.Demand.{Each, infoOr, whole, begun, framesFrom, Timed, part, Mark, stampE, tickE}
 use Rattle.splitter.specs.declared.timing.Pts.{Pts}
 use Rattle.splitter.specs.declared.timing.Timing.{Timing}
 use Rattle.splitter.specs.declared.timing.Clock.{Clock}
 use Rattle.splitter.proofs.Lists.{le-or-lt}
 use Rattle.splitter.proofs.Cutting.{cutsOf, lastIf}
 use Rattle.splitter.proofs.Places.{Part, rest, cuts-yes, cuts-no, whole-yes, whole-no, begun-yes, begun-zero, begun-part, rest-no-length}
-use Rattle.splitter.proofs.Marks.{Mark, stampE, tickE, spentE, stampsE, ticksE, infos}
+use Rattle.splitter.proofs.Marks.{spentE, stampsE, ticksE, infos}
 use Rattle.splitter.proofs.Rule.{Basis, FineM, W, timingOf, timing-emptied, spent-near, give-own, tick-fine, Pend, keep-own, tail-own, keep-old, tail-old}
 
 -- ---- frames with their stamps

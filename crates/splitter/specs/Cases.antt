@@ -112,9 +112,16 @@ rowAt t = pos 7 ∷ pos 6 ∷ pos 1024 ∷ pos 44100 ∷ pos 2 ∷ pos 0 ∷ pos
 abbrev bareRow : List ℤ
 bareRow = pos 7 ∷ pos 6 ∷ pos 1024 ∷ pos 44100 ∷ pos 2 ∷ pos 0 ∷ pos 0 ∷ pos 0 ∷ []
 
--- an anchor: timestamp, frames since, samples, rate
+-- an anchor: timestamp, frames since, samples, rate; and one that an unread tail made
+abbrev anchorBy : Bool → ℤ → ℕ → ℕ → ℕ → Anchored
+anchorBy tail t n s r =
+    To (record { pts = t; «frames_since» = n; «samples_per_frame» = s; «sample_rate» = r; unread = tail })
+
 abbrev anchor : ℤ → ℕ → ℕ → ℕ → Anchored
-anchor t n s r = To (record { pts = t; «frames_since» = n; «samples_per_frame» = s; «sample_rate» = r })
+anchor t n s r = anchorBy false t n s r
+
+abbrev tailAnchor : ℤ → ℕ → ℕ → ℕ → Anchored
+tailAnchor t n s r = anchorBy true t n s r
 
 abbrev shows : Answer → List ℤ → List ℕ → List ℕ → Pts → Anchored → ℕ → Bool → Shows
 shows a r b p t k d l =
@@ -146,7 +153,7 @@ starred =
     ∷ show 2 (pushes (0 ∷ F) Absent ∷ [])  -- S2
     (shows (done false 0 0) [] [] [] Absent Free 0 false ∷ [])
     ∷ show 2 (pushes (F ++ zeros 7) (At (pos 1000)) ∷ pushes F Absent ∷ [])  -- S3: the unreadable tail takes the timestamp and counts as one frame
-    (shows (done true 0 0) [] [] (zeros 6) (At (pos 1000)) (anchor (pos 1000) 1 0 0) 8 false
+    (shows (done true 0 0) [] [] (zeros 6) (At (pos 1000)) (tailAnchor (pos 1000) 1 0 0) 8 false
     ∷ shows (done true 1 7) (rowAt (pos 3089)) F [] Absent (anchor (pos 1000) 2 1024 44100) 14 true
     ∷ [])
     ∷ show 2 (pushes (F ++ zeros 6) Absent ∷ [])  -- S4

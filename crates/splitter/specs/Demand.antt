@@ -1,13 +1,13 @@
--- DEMAND 3: what a list of pushes owes on a list A of whole frames, by places in A's bytes. How the splitter works does
--- not come in; its calls do, in the claim at the end.
+-- DEMAND 3, as document 02's K7 has it: what a list of pushes owes on a list A of whole frames, by places in A's bytes.
+-- How the splitter works does not come in; its calls do, in the claim at the end.
 use mathlib.Core.Path.{_≡_}
-use mathlib.Core.Bool.{Bool, true, false}
+use mathlib.Core.Bool.{Bool, true, false, _&&_}
 use mathlib.Core.Option.{Option, none, some}
 use mathlib.Core.List.{List, [], _∷_, _++_, map}
 use Prim.Native.Nat.{ℕ, zero, suc, _+_, _-_, _*_, _/_, _≤_, _<_}
-use lib.Dec.{ltb, leb}
+use lib.Dec.{eqb, ltb, leb}
 use lib.IntN.{ℤ, pos, _+ℤ_}
-use lib.ListN.{length, take, drop}
+use lib.ListN.{length, take, drop, getD}
 use Rattle.heads.specs.Syntax.{headOf, needOf, syntaxOf}
 use Rattle.heads.specs.declared.info.AudioFrameInfo.{AudioFrameInfo}
 use Rattle.heads.specs.declared.info.AudioFrameKind.the-variants.{Ac3}
@@ -18,7 +18,7 @@ use Rattle.heads.specs.declared.syntax.AudioSyntax.{AudioSyntax}
 use Rattle.heads.specs.declared.syntax.CodedSyntax.the-variants.{Known}
 use Rattle.splitter.specs.Bounds.{payloadMost, rowWidth}
 use Rattle.splitter.specs.Cut.{Reader}
-use Rattle.splitter.specs.Stamp.{Frame, farPts}
+use Rattle.splitter.specs.Stamp.{Frame, far, farPts}
 use Rattle.splitter.specs.Answer.{Answer, refused, done}
 use Rattle.splitter.specs.Push.{Event, Outcome, firstOf, tight, bytesOf, rowsOf, over, run, final, push, new}
 use Rattle.splitter.specs.declared.timing.Pts.{Pts}
@@ -80,39 +80,59 @@ Starts n (e ∷ es) = (n ≤ length (e .payload)) × Timed (e .time)
 
 -- ---- the stamps
 
--- P, with the number of the first frame that commences in its payload
-pub record Point : Type 0 where
+-- The timestamp of the payload that frame j commences in, if it is the first that commences there. The events are the
+-- pushes within the limits, x bytes having come before.
+abbrev pub pickTime : Bool → Pts → Pts → Pts
+pickTime true t later = t
+pickTime false t later = later
+
+abbrev pub timeOf : List (List ℕ) → ℕ → List Event → ℕ → Pts
+timeOf A x [] j = Absent
+timeOf A x (e ∷ es) j =
+    pickTime (eqb j (begun A x) && ltb j (begun A (x + length (e .payload)))) (e .time)
+    (timeOf A (x + length (e .payload)) es j)
+
+-- What the next stamp is worked out from: the anchor P, the n frames since, and their sample count and rate.
+pub record Mark : Type 0 where
   pub time : ℤ
-  pub first : ℕ
+  pub since : ℕ
+  pub samples : ℕ
+  pub rate : ℕ
 
--- after a payload with that timestamp, the frames from a on commencing in it if there are some
-abbrev pub moved : Bool → Pts → ℕ → Option Point → Option Point
-moved true (At t) a q = some (record { time = t; first = a })
-moved true Absent a q = q
-moved false t a q = q
+-- P + floor(n × samples × 90,000 / rate)
+abbrev pub reached : Mark → ℤ
+reached m = m .time +ℤ pos (m .since * m .samples * 90000 / m .rate)
 
-abbrev pub pickPoint : Bool → Option Point → Option Point → Option Point
-pickPoint true a b = a
-pickPoint false a b = b
+-- The stamp of a frame: the timestamp, if that is its own, or else K7's 'a frame's stamp uses the geometry of the
+-- frames since the anchor'. What its own head says does not come in.
+abbrev pub stampE : Pts → Option Mark → AudioFrameInfo → Pts
+stampE (At t) m i = At t
+stampE Absent none i = Absent
+stampE Absent (some m) i = At (reached m)
 
--- The P of frame j: the last timestamp, up to the payload that frame commences in, whose payload had a frame commencing
--- in it. The events are the pushes within the limits.
-abbrev pub pointOf : List (List ℕ) → ℕ → List Event → Option Point → ℕ → Option Point
-pointOf A x [] q j = q
-pointOf A x (e ∷ es) q j =
-    pickPoint (ltb j (begun A x)) q
-    (pointOf A (x + length (e .payload)) es
-    (moved (ltb (begun A x) (begun A (x + length (e .payload)))) (e .time) (begun A x) q) j)
+-- a frame stamped t is the anchor, and is counted
+abbrev pub anchored : ℤ → AudioFrameInfo → Mark
+anchored t i = record { time = t; since = 1; samples = i .«samples_per_frame»; rate = i .«sample_rate» }
 
--- P + floor(n × samples × 90,000 / rate): n counts the frames from the first that commences in P's payload up to j, j
--- not counted
-abbrev pub stampFrom : Option Point → ℕ → AudioFrameInfo → Pts
-stampFrom none j i = Absent
-stampFrom (some q) j i = At (q .time +ℤ pos ((j - q .first) * i .«samples_per_frame» * 90000 / i .«sample_rate»))
+abbrev pub counted : Mark → Mark
+counted m = record { time = m .time; since = suc (m .since); samples = m .samples; rate = m .rate }
 
-abbrev pub IsPoint : Option Point → Type 0
-IsPoint none = ⊥
-IsPoint (some q) = Unit {0}
+-- Behind a frame that a stamp was worked out for: 'a frame whose geometry differs from theirs keeps that stamp and
+-- becomes .. the new anchor', and one 'that would move the anchor outside number 10's bounds .. leaves no anchor'.
+-- Asked: is its geometry theirs; is its stamp out of bounds?
+abbrev pub agrees : ℕ → ℕ → AudioFrameInfo → Bool
+agrees samples rate i = eqb samples (i .«samples_per_frame») && eqb rate (i .«sample_rate»)
+
+abbrev pub turnE : Bool → Bool → Mark → AudioFrameInfo → Option Mark
+turnE true out m i = some (counted m)
+turnE false true m i = none
+turnE false false m i = some (anchored (reached m) i)
+
+-- the mark behind a frame
+abbrev pub tickE : Pts → Option Mark → AudioFrameInfo → Option Mark
+tickE (At t) m i = some (anchored t i)
+tickE Absent none i = none
+tickE Absent (some m) i = turnE (agrees (m .samples) (m .rate) i) (far (reached m)) m i
 
 -- what a head says; the frames of A have one
 abbrev pub infoOr : Head → AudioFrameInfo
@@ -127,6 +147,35 @@ infoOr (Refused g) =
       «bit_rate» = NoBitRate;
     }
 
+-- what the head of frame j says
+abbrev pub infoAt : Reader → List (List ℕ) → ℕ → AudioFrameInfo
+infoAt rd A j = infoOr (rd (getD A j []))
+
+-- the mark before frame j, and its stamp
+abbrev pub markOf : Reader → List (List ℕ) → List Event → ℕ → Option Mark
+markOf rd A es zero = none
+markOf rd A es (suc j) = tickE (timeOf A 0 es j) (markOf rd A es j) (infoAt rd A j)
+
+unfoldable pub stampOf : Reader → List (List ℕ) → List Event → ℕ → Pts
+stampOf rd A es j = stampE (timeOf A 0 es j) (markOf rd A es j) (infoAt rd A j)
+
+-- Frame k leaves no anchor: its stamp was worked out and is out of bounds, and its geometry is not that of the frame
+-- before it.
+pub record Leaves (rd : Reader) (A : List (List ℕ)) (es : List Event) (k : ℕ) : Type 0 where
+  pub untimed : timeOf A 0 es k ≡ Absent
+  pub stamp : ℤ
+  pub stamped : stampOf rd A es k ≡ At stamp
+  pub out : far stamp ≡ true
+  pub changes : agrees (infoAt rd A (k - 1) .«samples_per_frame») (infoAt rd A (k - 1) .«sample_rate») (infoAt rd A k)
+      ≡ false
+
+-- Such a frame comes before frame j, and no frame behind it up to j has a timestamp of its own.
+pub record Unstamped (rd : Reader) (A : List (List ℕ)) (es : List Event) (j : ℕ) : Type 0 where
+  pub frame : ℕ
+  pub before : frame < j
+  pub leaves : Leaves rd A es frame
+  pub untimed : (l : ℕ) → frame < l → l ≤ j → timeOf A 0 es l ≡ Absent
+
 -- frames numbered from j, with their heads and stamps
 abbrev pub framesFrom : Reader → (ℕ → AudioFrameInfo → Pts) → ℕ → List (List ℕ) → List Frame
 framesFrom rd σ j [] = []
@@ -138,7 +187,7 @@ framesFrom rd σ j (f ∷ fs) = record {
 
 -- all of A's frames, with their stamps
 abbrev pub stamped : Reader → List (List ℕ) → List Event → List Frame
-stamped rd A evs = framesFrom rd (λ j i. stampFrom (pointOf A 0 (within A 0 evs) none j) j i) 0 A
+stamped rd A evs = framesFrom rd (λ j i. stampOf rd A (within A 0 evs) j) 0 A
 
 -- ---- what is seen of a push: answer, state and buffers
 
@@ -235,10 +284,6 @@ pub record Whole (n : ℕ) (rd : Reader) (f : List ℕ) : Type 0 where
   pub exact : info .«frame_len» ≡ length f
   pub long : n ≤ length f
 
--- a frame with this sample count and rate
-abbrev pub Same : Reader → ℕ → ℕ → List ℕ → Type 0
-Same rd sm rt f = (infoOr (rd f) .«samples_per_frame» ≡ sm) × (infoOr (rd f) .«sample_rate» ≡ rt)
-
 abbrev pub Each : (List ℕ → Type 0) → List (List ℕ) → Type 0
 Each P [] = Unit {0}
 Each P (f ∷ fs) = P f × Each P fs
@@ -257,12 +302,10 @@ Carried s left (e ∷ es) =
 
 -- ---- the claim
 
-pub record Given3 (code : ℕ) (x : AudioSyntax) (sm rt : ℕ) (A : List (List ℕ)) (evs : List Event) : Type 0 where
+pub record Given3 (code : ℕ) (x : AudioSyntax) (A : List (List ℕ)) (evs : List Event) : Type 0 where
   -- one syntax; frames each as long as its accepted head says and at least 8, 4 or 7 bytes
   pub known : syntaxOf code ≡ Known x
   pub whole-frames : Each (Whole (needOf x) (headOf x)) A
-  -- all with the same sample count and rate
-  pub one-geometry : Each (Same (headOf x) sm rt) A
   -- a non-empty list of fewer than 4,294,000,000
   pub some-frame : 0 < length A
   pub few : length A < 4294000000
@@ -271,13 +314,20 @@ pub record Given3 (code : ℕ) (x : AudioSyntax) (sm rt : ℕ) (A : List (List �
   pub starts : Starts (needOf x) (within A 0 evs)
   pub carried : Carried (new code) [] evs
 
-pub record Meets3 (code : ℕ) (x : AudioSyntax) (A : List (List ℕ)) (evs : List Event) : Type 0 where
+-- F: A's frames with their heads and stamps
+pub record Handed3 (code : ℕ) (A : List (List ℕ)) (evs : List Event) (F : List Frame) : Type 0 where
   -- push by push: refused exactly outside the limits, else taken, with just the frames whose last byte it brings
-  pub each-push : map seen (run (new code) evs) ≡ owed code A (stamped (headOf x) A evs) 0 evs
+  pub each-push : map seen (run (new code) evs) ≡ owed code A F 0 evs
   -- all in all: A's bytes, and A's rows, in order; nothing discarded, nothing pending at the end
   pub all-bytes : outputs (run (new code) evs) ≡ join A
-  pub all-rows : allRows (run (new code) evs) ≡ rowsOf (stamped (headOf x) A evs)
-  -- every frame has a P
-  pub all-stamped : (j : ℕ) → IsPoint (pointOf A 0 (within A 0 evs) none j)
+  pub all-rows : allRows (run (new code) evs) ≡ rowsOf F
   pub none-pending : (final (new code) evs) .pending ≡ 0
   pub none-discarded : (final (new code) evs) .discarded ≡ 0
+
+pub record Meets3 (code : ℕ) (x : AudioSyntax) (A : List (List ℕ)) (evs : List Event) : Type 0 where
+  pub handed : Handed3 code A evs (stamped (headOf x) A evs)
+  -- a frame has no stamp exactly where the anchor was lost before it
+  pub absent-only : (j : ℕ) → stampOf (headOf x) A (within A 0 evs) j ≡ Absent
+      → Unstamped (headOf x) A (within A 0 evs) j
+  pub absent-if : (j : ℕ) → Unstamped (headOf x) A (within A 0 evs) j
+      → stampOf (headOf x) A (within A 0 evs) j ≡ Absent

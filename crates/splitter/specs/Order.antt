@@ -31,7 +31,8 @@ state code m a d = record {
 
 -- an anchor at that time, with so many frames since and so many samples
 abbrev anchor : ℤ → ℕ → ℕ → Anchored
-anchor t n s = To (record { pts = t; «frames_since» = n; «samples_per_frame» = s; «sample_rate» = 44100 })
+anchor t n s =
+    To (record { pts = t; «frames_since» = n; «samples_per_frame» = s; «sample_rate» = 44100; unread = false })
 
 abbrev sound : AudioFrameSplitter
 sound = state 2 0 Free 0

@@ -40,7 +40,7 @@ pub fn filled(kind: u32, head: Bytes, random: &mut Random) -> Vec<u8> {
 
 /// A head of that kind whose frame is one of the shortest. Some of E-AC-3's frames are then shorter
 /// than a head.
-fn short_head(kind: u32, outside: u64, random: &mut Random) -> Bytes {
+pub fn short_head(kind: u32, outside: u64, random: &mut Random) -> Bytes {
     let head = samples::good(kind, random);
     match kind {
         1 => samples::with_fields(head, &[(34, 6, random.below(4))]),

@@ -8,3 +8,4 @@ pub mod frames;
 pub mod random;
 pub mod samples;
 pub mod soup;
+pub mod tunes;

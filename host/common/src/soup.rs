@@ -4,6 +4,7 @@
 use crate::frames::{filled, frame, kinds, likely, NEVER};
 use crate::random::Random;
 use crate::samples;
+use crate::tunes;
 
 /// What a stream is made as.
 #[derive(Clone, Copy)]
@@ -13,6 +14,10 @@ pub enum Sort {
     Pieces,
     Sparse,
     AnyBytes,
+    /// Of one geometry, and none outside the domain of equality.
+    OneGeometry,
+    /// Tracks of several geometries.
+    Joined,
 }
 
 /// A stream of that sort, some hundred bytes long. Of E-AC-3 and ADTS one frame in ten or so is outside
@@ -30,6 +35,8 @@ pub fn stream_with(sort: Sort, code: u32, outside: u64, random: &mut Random) -> 
         Sort::Pieces => pieces(code, outside, random),
         Sort::Sparse => sparse(code, outside, random),
         Sort::AnyBytes => any_bytes(code, random),
+        Sort::OneGeometry => tunes::one_geometry(code, random),
+        Sort::Joined => tunes::joined(code, random),
     }
 }
 

@@ -165,11 +165,20 @@ pub const X: [u8; 9] = [0xFF, 0xF0, 0x50, 0x80, 0x01, 0x20, 0x01, 0x00, 0x00];
 pub const G: [u8; 8] = [0x0B, 0x77, 0x00, 0x03, 0x3F, 0x80, 0x00, 0x00];
 pub const T: [u8; 8] = [0x0B, 0x77, 0xC0, 0x03, 0x3F, 0x80, 0x00, 0x00];
 
+/// Frames of F's length: 1024 samples at 48000 Hz, 1920 ticks; at 8000 Hz, 11520 ticks; 2048 at 44100
+/// Hz, floor(k × 4179.59..) ticks.
+pub const H: [u8; 7] = [0xFF, 0xF1, 0x4C, 0x80, 0x00, 0xE0, 0x00];
+pub const B: [u8; 7] = [0xFF, 0xF1, 0x6C, 0x80, 0x00, 0xE0, 0x00];
+pub const Y: [u8; 7] = [0xFF, 0xF1, 0x50, 0x80, 0x00, 0xE0, 0x01];
+
 /// X alone: it is not taken now. F X F F: F was given, since X behind it read; now its seven bytes
 /// are lost, and X's nine, and the next frame has the timestamp. F 00 X F F: F was lost before too,
 /// and the zero byte; now X's nine as well. T alone; G T G G, in which G and T are lost, and the
 /// next frame has the timestamp; G G T, where the second G is lost, and one byte of T.
-const CHANGED: [Changed; 6] = [
+///
+/// K7: B B F F, where the Rust's stamps jump back; F F H H Y Y, where each track goes on from the stamp
+/// of its first frame, which is still by the track before.
+const CHANGED: [Changed; 8] = [
     (
         &[(b"2\n", 1), (&X, 1)],
         "       1     9  6  2048  44100  2       -                    0
@@ -231,6 +240,40 @@ E                    0     0
 ",
         "       1     8  2  1536  48000  6       -                    0
 E                    9     7
+",
+    ),
+    (
+        &[(b"2\n", 1), (&B, 2), (&F, 2)],
+        "       1     7  6  1024   8000  2       -                    0
+       2     7  6  1024   8000  2       -                11520
+       3     7  6  1024  44100  2       -                 4179
+       4     7  6  1024  44100  2       -                 6269
+E                    0     0
+",
+        "       1     7  6  1024   8000  2       -                    0
+       2     7  6  1024   8000  2       -                11520
+       3     7  6  1024  44100  2       -                23040
+       4     7  6  1024  44100  2       -                25129
+E                    0     0
+",
+    ),
+    (
+        &[(b"2\n", 1), (&F, 2), (&H, 2), (&Y, 2)],
+        "       1     7  6  1024  44100  2       -                    0
+       2     7  6  1024  44100  2       -                 2089
+       3     7  6  1024  48000  2       -                 3840
+       4     7  6  1024  48000  2       -                 5760
+       5     7  6  2048  44100  2       -                16718
+       6     7  6  2048  44100  2       -                20897
+E                    0     0
+",
+        "       1     7  6  1024  44100  2       -                    0
+       2     7  6  1024  44100  2       -                 2089
+       3     7  6  1024  48000  2       -                 4179
+       4     7  6  1024  48000  2       -                 6099
+       5     7  6  2048  44100  2       -                 8019
+       6     7  6  2048  44100  2       -                12198
+E                    0     0
 ",
     ),
 ];

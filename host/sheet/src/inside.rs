@@ -22,7 +22,9 @@ impl Inside {
         let mut run = Run::default();
         model::print_while(input, sheet, text::line, |splitter, payload| {
             let parts = splitter.parts();
-            *left = run.push(answers::code(parts.syntax), parts.locked, &parts.residual, payload);
+            let code = answers::code(parts.syntax);
+            // The first payload has the one timestamp.
+            *left = run.push(code, parts.locked, &parts.residual, payload, *payloads == 0);
             let goes_on = run.is_inside();
             *payloads += usize::from(goes_on);
             goes_on

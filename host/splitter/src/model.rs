@@ -31,11 +31,16 @@ impl Default for Model {
 
 impl Model {
     pub fn answer(&mut self, call: &Call) -> Answer {
+        self.answer_by(&self.state(), call)
+    }
+
+    /// The same where the numbers look at that state, which may not be the splitter's own.
+    pub fn answer_by(&mut self, numbers: &State, call: &Call) -> Answer {
         let (outcome, frames) = match call {
             Call::New(code) => self.renew(*code),
             Call::Set(state, bytes) => self.set(state, bytes),
-            Call::Push(pts, lent, payload) => self.push(*pts, lent, payload),
-            Call::Flush(lent) => self.flush(lent),
+            Call::Push(pts, lent, payload) => self.push(numbers, *pts, lent, payload),
+            Call::Flush(lent) => self.flush(numbers, lent),
             Call::Reset => self.change(AudioFrameSplitter::reset),
             Call::Unlock => self.change(AudioFrameSplitter::unlock),
             Call::Malformed(..) => (Outcome::Malformed, Vec::new()),
@@ -66,7 +71,8 @@ impl Model {
 
     pub fn state(&self) -> State {
         let parts = self.splitter.parts();
-        let anchor = |(pts, frames, samples, rate)| Anchor { pts, frames, samples, rate };
+        let anchor =
+            |(pts, frames, samples, rate, unread)| Anchor { pts, frames, samples, rate, unread };
         State {
             code: self.code(),
             pending: self.pending,
@@ -108,18 +114,18 @@ impl Model {
             syntax: syntax(state.code),
             residual: self.pending_bytes().to_vec(),
             residual_pts: state.pts,
-            anchor: state.anchor.map(|a| (a.pts, a.frames, a.samples, a.rate)),
+            anchor: state.anchor.map(|a| (a.pts, a.frames, a.samples, a.rate, a.unread)),
             discarded: state.discarded,
             locked: state.locked,
         });
         (Outcome::Done, Vec::new())
     }
 
-    fn push(&mut self, pts: Option<i64>, lent: &Lent, payload: &[u8]) -> Done {
-        let state = self.state();
-        if let Some(number) = refusals::of_push(&state, pts, lent, payload.len()) {
+    fn push(&mut self, numbers: &State, pts: Option<i64>, lent: &Lent, payload: &[u8]) -> Done {
+        if let Some(number) = refusals::of_push(numbers, pts, lent, payload.len()) {
             return (Outcome::Refused(number), Vec::new());
         }
+        let state = self.state();
         // The Rust does not say whether it took the payload; this is document 01's rule.
         let reads = syntax(self.code).parse(payload).is_some();
         let taken = state.locked || state.pending > 0 || reads;
@@ -128,8 +134,8 @@ impl Model {
         (if taken { Outcome::Written } else { Outcome::Nothing }, frames)
     }
 
-    fn flush(&mut self, lent: &Lent) -> Done {
-        if let Some(number) = refusals::of_flush(&self.state(), lent) {
+    fn flush(&mut self, numbers: &State, lent: &Lent) -> Done {
+        if let Some(number) = refusals::of_flush(numbers, lent) {
             return (Outcome::Refused(number), Vec::new());
         }
         let frame = self.splitter.flush();

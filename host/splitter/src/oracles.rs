@@ -16,6 +16,11 @@ pub struct Answers {
     pub unchanged: Option<Answer>,
     /// How the run left the domain, if it is this call that left it.
     pub left: Option<Left>,
+    /// Whether the run is inside, this call included, and was outside before: K7 looks at no more than
+    /// what came since the last reset.
+    pub is_inside_again: bool,
+    /// Whether it is this call that brought the run back.
+    pub is_back: bool,
 }
 
 impl Answers {
@@ -47,14 +52,29 @@ impl Oracles {
     }
 
     pub fn answer(&mut self, call: &Call) -> Answers {
+        let (before, was_inside) = (self.requested.state(), self.run.is_inside());
         let requested = self.requested.answer(call);
-        let left = match requested.outcome {
+        let left = match &requested.outcome {
             // It asks no reader, and begins no run.
             Outcome::Refused(_) => None,
             _ => self.judge(call),
         };
-        let unchanged = self.unchanged.answer(call);
-        Answers { requested, unchanged: self.run.is_inside().then_some(unchanged), left }
+        let is_inside = self.run.is_inside();
+        let is_back = is_inside && !was_inside && matches!(call, Call::Reset | Call::Unlock);
+        let mut unchanged = match is_inside {
+            true => self.unchanged.answer(call),
+            // The anchors are different ones: the calls that are refused are those as requested.
+            false => self.unchanged.answer_by(&before, call),
+        };
+        // Its anchor has no mark, so that the mark is left out of what is compared.
+        unchanged.state.take_mark(&requested.state);
+        Answers {
+            requested,
+            unchanged: is_inside.then_some(unchanged),
+            left,
+            is_inside_again: self.run.is_inside_again(),
+            is_back,
+        }
     }
 
     /// Tells the domain of a call that is not refused and that the unchanged model has yet to
@@ -63,16 +83,28 @@ impl Oracles {
         let State { code, locked, .. } = self.unchanged.state();
         let pending = self.unchanged.pending_bytes();
         match call {
-            Call::New(_) | Call::Set(..) => {
-                self.run = Run::default();
-                // The call sets all but the pending buffer, whose bytes stay from run to run; those
-                // that were written outside the domain came from the other splitter.
-                self.unchanged.lend(self.requested.buffer());
+            Call::New(_) => self.begin(Run::default()),
+            Call::Set(state, _) => {
+                let anchor = state.anchor.map(|a| ((a.samples, a.rate), a.unread));
+                self.begin(Run::from(anchor))
+            }
+            Call::Push(pts, _, payload) => {
+                self.run.push(code, locked, pending, payload, pts.is_some())
+            }
+            Call::Flush(_) => self.run.flush(code, pending),
+            Call::Reset | Call::Unlock => {
+                self.run.reset();
                 None
             }
-            Call::Push(_, _, payload) => self.run.push(code, locked, pending, payload),
-            Call::Flush(_) => self.run.flush(code, pending),
-            Call::Reset | Call::Unlock | Call::Malformed(..) => None,
+            Call::Malformed(..) => None,
         }
+    }
+
+    /// The call sets all but the pending buffer, whose bytes stay from run to run; those that were
+    /// written outside the domain may be from the other splitter.
+    fn begin(&mut self, run: Run) -> Option<Left> {
+        self.run = run;
+        self.unchanged.lend(self.requested.buffer());
+        None
     }
 }

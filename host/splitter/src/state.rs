@@ -22,6 +22,8 @@ pub struct Anchor {
     pub frames: u32,
     pub samples: u32,
     pub rate: u32,
+    /// Made by an unread tail, its geometry yet to be learnt. The unchanged module knows no mark.
+    pub unread: bool,
 }
 
 impl State {
@@ -38,6 +40,14 @@ impl State {
         format!("{}{s}{}{s}{pts}{s}{anchor}{s}{}{s}{lock}", self.code, self.pending, self.discarded)
     }
 
+    /// The mark of the other's anchor, if both have one. The unchanged module's has none, so that the
+    /// mark is left out where answers are compared with it.
+    pub fn take_mark(&mut self, other: &State) {
+        if let (Some(anchor), Some(other)) = (&mut self.anchor, &other.anchor) {
+            anchor.unread = other.unread;
+        }
+    }
+
     /// From the words of a line that sets it.
     pub fn parse(words: [&str; 6]) -> Option<State> {
         let [code, pending, pts, anchor, discarded, locked] = words;
@@ -47,28 +57,26 @@ impl State {
             pts: parse_or_dash(pts, decimal)?,
             anchor: parse_or_dash(anchor, Anchor::parse)?,
             discarded: decimal(discarded)?,
-            locked: match locked {
-                "0" => false,
-                "1" => true,
-                _ => return None,
-            },
+            locked: bit(locked)?,
         })
     }
 }
 
 impl Anchor {
     fn text(self) -> String {
-        format!("{}:{}:{}:{}", self.pts, self.frames, self.samples, self.rate)
+        let Anchor { pts, frames, samples, rate, unread } = self;
+        format!("{pts}:{frames}:{samples}:{rate}:{}", u8::from(unread))
     }
 
     fn parse(text: &str) -> Option<Anchor> {
         let numbers: Vec<&str> = text.split(':').collect();
-        let [pts, frames, samples, rate] = numbers.try_into().ok()?;
+        let [pts, frames, samples, rate, unread] = numbers.try_into().ok()?;
         Some(Anchor {
             pts: decimal(pts)?,
             frames: decimal(frames)?,
             samples: decimal(samples)?,
             rate: decimal(rate)?,
+            unread: bit(unread)?,
         })
     }
 }
@@ -83,6 +91,15 @@ pub fn parse_or_dash<T>(text: &str, parse: fn(&str) -> Option<T>) -> Option<Opti
     match text {
         "-" => Some(None),
         _ => parse(text).map(Some),
+    }
+}
+
+/// `0` or `1`.
+fn bit(text: &str) -> Option<bool> {
+    match text {
+        "0" => Some(false),
+        "1" => Some(true),
+        _ => None,
     }
 }
 

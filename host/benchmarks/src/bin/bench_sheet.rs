@@ -64,14 +64,16 @@ fn tables(ours: Vec<String>) -> Result<(), Box<dyn Error>> {
     Ok(())
 }
 
-/// Ours, if it was named, and the Rust, which stands beside this program.
+/// Ours, if it was named, and the Rust, which stands beside this program: over the module as it was
+/// published. The streams are inside the domain of equality, each of one geometry.
 fn programs(ours: Vec<String>) -> io::Result<Vec<Program>> {
     let rust =
         std::env::current_exe()?.with_file_name("sheet_model").to_string_lossy().into_owned();
+    let rust = [rust, "--unchanged".into()];
     let mut programs = vec![
         Program { name: "ours", command: ours },
-        Program { name: "Rust", command: vec![rust.clone()] },
-        Program { name: "Rust, digits", command: vec![rust, "--digits".into()] },
+        Program { name: "Rust", command: rust.to_vec() },
+        Program { name: "Rust, digits", command: [&rust[..], &["--digits".into()]].concat() },
     ];
     programs.retain(|program| !program.command.is_empty());
     Ok(programs)

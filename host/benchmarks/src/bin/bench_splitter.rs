@@ -7,11 +7,14 @@
 //! frames, output bytes and bytes discarded of all rounds, bytes pending at the end, and, of all
 //! rounds modulo 2^64, the sum of all stamps and the sum of the frames' last bytes, so that the
 //! copies are read.
+//!
+//! What is measured is the unchanged Rust module. Of one byte a payload its stamps are others than
+//! those that request K7 asks for, since there a tail has the timestamp: a program's sums must be the
+//! unchanged module's or those of the module as requested.
 
 use benchmarks::{median, streams, Stream};
 use common::asking::verdict;
-use oracle::answers;
-use oracle::audio_frame::{AudioFrameSplitter, Parts};
+use oracle::{answers, audio_frame, requested};
 use std::error::Error;
 use std::hint::black_box;
 use std::io::{self, BufRead, Read, Write};
@@ -115,7 +118,7 @@ fn table(programs: &[Program], only: &str) -> Result<(), Box<dyn Error>> {
 
 /// The line's numbers, as text.
 fn measured(programs: &[Program], row: &Row) -> Result<String, Box<dyn Error>> {
-    let expected = push_all(row.code, row.bytes, row.size);
+    let expected = [push_all, push_all_as_requested].map(|all| all(row.code, row.bytes, row.size));
     let more: Result<Vec<u64>, _> = programs.iter().map(|p| rounds(p, row, expected)).collect();
     let more = more?;
     let mut rates = vec![Vec::new(); programs.len()];
@@ -138,7 +141,7 @@ fn measured(programs: &[Program], row: &Row) -> Result<String, Box<dyn Error>> {
 }
 
 /// So many rounds beside the first that they take long enough to be measured.
-fn rounds(program: &Program, row: &Row, expected: Sums) -> Result<u64, Box<dyn Error>> {
+fn rounds(program: &Program, row: &Row, expected: [Sums; 2]) -> Result<u64, Box<dyn Error>> {
     let mut more = 1;
     loop {
         let few = run(program, row, 1, expected)?;
@@ -155,12 +158,12 @@ impl Program {
     }
 }
 
-/// Runs the program once. What it prints must be the Rust's sums of one round, so many times.
+/// Runs the program once. What it prints must be a module's sums of one round, so many times.
 fn run(
     program: &Program,
     row: &Row,
     rounds: u64,
-    expected: Sums,
+    expected: [Sums; 2],
 ) -> Result<Duration, Box<dyn Error>> {
     let start = Instant::now();
     let mut command = Command::new(&program.command[0]);
@@ -172,14 +175,16 @@ fn run(
     drop(input);
     let output = child.wait_with_output()?;
     let time = start.elapsed();
-    let expected = expected.times(rounds).line();
-    let right = !program.as_rust || output.stdout == expected.as_bytes();
+    let expected = expected.map(|sums| sums.times(rounds).line());
+    let right = !program.as_rust || expected.iter().any(|e| output.stdout == e.as_bytes());
     if output.status.success() && right {
         return Ok(time);
     }
     let asked = format!("{}, payloads of {}, {rounds} rounds", row.name, row.size);
     let said = format!("'{}', {}", output.stdout.escape_ascii(), output.status);
-    Err(format!("{asked}: the program says {said}; the Rust '{}'", expected.trim_end()).into())
+    let [unchanged, requested] = expected.map(|line| line.trim_end().to_string());
+    let rust = format!("the Rust '{unchanged}', as requested '{requested}'");
+    Err(format!("{asked}: the program says {said}; {rust}").into())
 }
 
 impl Sums {
@@ -201,30 +206,39 @@ impl Sums {
     }
 }
 
-/// One round of the Rust.
-fn push_all(code: u32, stream: &[u8], size: usize) -> Sums {
-    let mut splitter = AudioFrameSplitter::from_parts(Parts {
-        syntax: answers::syntax(code).expect("a code below 3"),
-        residual: Vec::new(),
-        residual_pts: None,
-        anchor: None,
-        discarded: 0,
-        locked: true,
-    });
-    let mut sums = Sums::default();
-    let mut pts = Some(0);
-    for payload in stream.chunks(size) {
-        for frame in splitter.push(payload, pts.take()) {
-            sums.frames += 1;
-            sums.bytes += frame.data.len() as u64;
-            sums.stamps = sums.stamps.wrapping_add(frame.pts.unwrap_or(0) as u64);
-            sums.last_bytes += u64::from(frame.data.last().copied().unwrap_or(0));
+/// One round of a module's splitter, as a function of that name.
+macro_rules! one_round {
+    ($name:ident, $answers:path, $module:path) => {
+        fn $name(code: u32, stream: &[u8], size: usize) -> Sums {
+            use $answers as answers;
+            use $module as module;
+            let mut splitter = module::AudioFrameSplitter::from_parts(module::Parts {
+                syntax: answers::syntax(code).expect("a code below 3"),
+                residual: Vec::new(),
+                residual_pts: None,
+                anchor: None,
+                discarded: 0,
+                locked: true,
+            });
+            let mut sums = Sums::default();
+            let mut pts = Some(0);
+            for payload in stream.chunks(size) {
+                for frame in splitter.push(payload, pts.take()) {
+                    sums.frames += 1;
+                    sums.bytes += frame.data.len() as u64;
+                    sums.stamps = sums.stamps.wrapping_add(frame.pts.unwrap_or(0) as u64);
+                    sums.last_bytes += u64::from(frame.data.last().copied().unwrap_or(0));
+                }
+            }
+            sums.discarded = splitter.discarded_bytes();
+            sums.pending = splitter.pending_bytes() as u64;
+            sums
         }
-    }
-    sums.discarded = splitter.discarded_bytes();
-    sums.pending = splitter.pending_bytes() as u64;
-    sums
+    };
 }
+
+one_round!(push_all, answers, audio_frame);
+one_round!(push_all_as_requested, requested::answers, requested::audio_frame);
 
 /// What a program that is measured must do, done with the Rust.
 fn be_the_program() -> Result<(), Box<dyn Error>> {

@@ -2,14 +2,15 @@
 //!
 //!   cuelines_list INPUT LINES
 //!
-//! ADTS frames of one block and of four, whose stamps are 0, 8359, 4179, 25077 and 8359, with the start
-//! of another behind them; and times at, before and behind these stamps.
+//! ADTS frames of one block and of four by turns, 2089 and 8359 ticks long, so that the stamps are 0,
+//! 2089, 10448, 12537 and 20896 (K7), with the start of another behind them; and times at, before and
+//! behind these stamps.
 
 use cues::{cases, found};
 use sheet::requested::cases::F;
 use std::process::ExitCode;
 
-const FIRST_LINE: &[u8] = b"2 8359 8358 0 -1 4179 4178 25076 9223372036854775807\n";
+const FIRST_LINE: &[u8] = b"2 2089 2088 0 -1 10448 10447 20895 9223372036854775807\n";
 
 fn main() -> ExitCode {
     let arguments: Vec<String> = std::env::args().skip(1).collect();

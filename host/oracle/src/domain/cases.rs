@@ -3,7 +3,7 @@
 
 use super::Asked::{self, FirstPayload, Flush, Search, SecondHead};
 use super::Request::{self, K3, K6};
-use super::{taken_out, Left, Run};
+use super::{stamp_cases, taken_out, Left, Run};
 
 /// A code, a head, and the request that took it out of the domain.
 type Head = (u32, &'static [u8], Option<Request>);
@@ -138,21 +138,21 @@ pub fn check() -> Result<(), String> {
         }
     }
     for (code, is_locked, pending, payload, expected) in K3_CALLS.into_iter().chain(K6_CALLS) {
-        let expected = expected.map(|(request, asked)| Left { request, asked });
+        let expected = expected.map(|(request, asked)| Left::Head(request, asked));
         let mut run = Run::default();
         let met = match payload {
-            Some(payload) => run.push(code, is_locked, pending, payload),
+            Some(payload) => run.push(code, is_locked, pending, payload, false),
             None => run.flush(code, pending),
         };
         if met != expected || run.is_inside() != expected.is_none() {
             let call = format!("code {code}, locked {is_locked}, {pending:02X?}, {payload:02X?}");
             return Err(format!("the domain, {call}: met at {met:?}, expected {expected:?}"));
         }
-        // Once outside, for good.
-        let again = run.push(2, true, &[], &[0xFF, 0xF0, 0x50, 0x80, 0x01, 0x20, 0x01]);
+        // Once outside by a head, for good.
+        let again = run.push(2, true, &[], &[0xFF, 0xF0, 0x50, 0x80, 0x01, 0x20, 0x01], false);
         if again.is_some() != expected.is_none() || run.is_inside() {
             return Err(format!("the domain left at {expected:?} is left again at {again:?}"));
         }
     }
-    Ok(())
+    stamp_cases::check()
 }

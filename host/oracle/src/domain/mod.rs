@@ -3,8 +3,13 @@
 //! the reader is asked; it never looks at whether two answers differ, nor at what a program skips.
 
 use crate::answers;
+use since::{Since, Thing, What};
 
 pub mod cases;
+mod since;
+mod stamp_cases;
+
+pub use since::{Geometry, SetAnchor, Stamped};
 
 /// The requests that took heads out of the domain.
 #[derive(Clone, Copy, Debug, PartialEq)]
@@ -36,32 +41,59 @@ impl Asked {
     }
 }
 
-/// How a run leaves the domain: the request that took out the head that is met, and where it is met.
+/// How a run leaves the domain.
 #[derive(Clone, Copy, Debug, PartialEq)]
-pub struct Left {
-    pub request: Request,
-    pub asked: Asked,
+pub enum Left {
+    /// By a head that a request took out, and where it is met. For good: what is cut is another.
+    Head(Request, Asked),
+    /// By what K7 stamps otherwise, up to the next reset or unlock.
+    Stamps(Stamped),
 }
 
 impl Left {
     /// Groups of counts, by the request.
-    pub const GROUPS: [&'static str; 2] = ["domain left by K3, at", "domain left by K6, at"];
+    pub const GROUPS: [&'static str; 3] =
+        ["domain left by K3, at", "domain left by K6, at", "domain left by K7, at"];
 
     pub fn group(self) -> &'static str {
-        Left::GROUPS[self.request as usize]
+        match self {
+            Left::Head(request, _) => Left::GROUPS[request as usize],
+            Left::Stamps(_) => Left::GROUPS[2],
+        }
+    }
+
+    pub fn name(self) -> &'static str {
+        match self {
+            Left::Head(_, asked) => asked.name(),
+            Left::Stamps(stamped) => stamped.name(),
+        }
     }
 }
 
-/// One run: the calls from a new splitter, or from a state that was set, on. It is inside until a
-/// call asks the reader about a head that is outside, and then outside for good.
+/// One run: the calls from a new splitter, or from a state that was set, on. A call that asks the
+/// reader about a head that is outside ends it for good. K7 looks at what came since the splitter was
+/// new or reset, and so a reset or an unlock brings a run back that only K7 took out.
 #[derive(Default)]
 pub struct Run {
-    left: bool,
+    ended: bool,
+    since: Since,
+    /// Whether it was brought back.
+    back: bool,
 }
 
 impl Run {
+    /// From a state that was set, which stands for a run that ends in it.
+    pub fn from(anchor: Option<SetAnchor>) -> Run {
+        Run { since: Since::from(anchor), ..Run::default() }
+    }
+
     pub fn is_inside(&self) -> bool {
-        !self.left
+        !self.ended && !self.since.is_outside
+    }
+
+    /// Inside, and was outside before.
+    pub fn is_inside_again(&self) -> bool {
+        self.is_inside() && self.back
     }
 
     /// A push that is not refused. Says how it leaves the domain, if it is this push that does.
@@ -71,22 +103,39 @@ impl Run {
         is_locked: bool,
         pending: &[u8],
         payload: &[u8],
+        has_timestamp: bool,
     ) -> Option<Left> {
-        self.leave(|| met_by_push(code, is_locked, pending, payload))
+        let things = || cut_by_push(code, is_locked, pending, payload);
+        self.follow(things, pending.len(), has_timestamp)
     }
 
     /// A flush that is not refused, as [`Run::push`].
     pub fn flush(&mut self, code: u32, pending: &[u8]) -> Option<Left> {
-        self.leave(|| {
-            let request = taken_out(code, pending)?;
-            Some(Left { request, asked: Asked::Flush })
-        })
+        self.follow(|| cut_by_flush(code, pending), pending.len(), false)
     }
 
-    fn leave(&mut self, met: impl Fn() -> Option<Left>) -> Option<Left> {
-        let met = if self.left { None } else { met() };
-        self.left |= met.is_some();
-        met
+    /// A reset, or an unlock, which is a reset too.
+    pub fn reset(&mut self) {
+        self.back |= self.since.is_outside && !self.ended;
+        self.since = Since::default();
+    }
+
+    fn follow(
+        &mut self,
+        things: impl Fn() -> Result<Vec<Thing>, Left>,
+        pending: usize,
+        has_timestamp: bool,
+    ) -> Option<Left> {
+        if self.ended {
+            return None;
+        }
+        match things() {
+            Ok(things) => self.since.follow(&things, pending, has_timestamp).map(Left::Stamps),
+            Err(head) => {
+                self.ended = true;
+                Some(head)
+            }
+        }
     }
 }
 
@@ -124,39 +173,69 @@ fn is_k6(code: u32, head: &[u8]) -> bool {
     (11..=16).contains(&bsid) && strmtyp == 3 && reads(code, head)
 }
 
-/// Document 01's rules of push, as far as they ask the reader: the first of these questions that is
-/// about a head outside the domain. Up to it any reader of the two says the same.
-fn met_by_push(code: u32, is_locked: bool, pending: &[u8], payload: &[u8]) -> Option<Left> {
+/// Document 01's rules of push: what is kept and given, in its order; or the first question to the
+/// reader that is about a head outside the domain. Up to it any reader of the two says the same.
+fn cut_by_push(
+    code: u32,
+    is_locked: bool,
+    pending: &[u8],
+    payload: &[u8],
+) -> Result<Vec<Thing>, Left> {
+    let mut things = Vec::new();
     if !is_locked && pending.is_empty() {
-        if let Some(request) = taken_out(code, payload) {
-            return Some(Left { request, asked: Asked::FirstPayload });
-        }
+        met(taken_out(code, payload), Asked::FirstPayload)?;
         if !reads(code, payload) {
-            return None; // Not taken.
+            return Ok(things); // Not taken.
         }
     }
     let joined = [pending, payload].concat();
-    let mut left = &joined[..];
-    while left.len() >= need(code) {
-        if let Some(request) = taken_out(code, left) {
-            return Some(Left { request, asked: Asked::Search });
-        }
-        let step = match length(code, left) {
+    let mut at = 0;
+    while joined.len() - at >= need(code) {
+        let left = &joined[at..];
+        met(taken_out(code, left), Asked::Search)?;
+        at += match read(code, left) {
             None => 1,
-            Some(length) if length < need(code) => 1,
-            Some(length) => match left.get(length..) {
-                None => return None, // Kept.
-                Some(behind) if behind.len() < need(code) => length,
-                Some(behind) => match taken_out(code, behind) {
-                    Some(request) => return Some(Left { request, asked: Asked::SecondHead }),
-                    None if reads(code, behind) => length,
-                    None => 1,
-                },
-            },
+            Some((length, _)) if length < need(code) => 1,
+            Some((length, geometry)) => {
+                let Some(behind) = left.get(length..) else {
+                    things.push(Thing { at, what: What::Frame(Stamped::Kept, geometry) });
+                    return Ok(things);
+                };
+                met(second_head(code, behind), Asked::SecondHead)?;
+                if behind.len() < need(code) || reads(code, behind) {
+                    things.push(Thing { at, what: What::Frame(Stamped::Given, geometry) });
+                    length
+                } else {
+                    1
+                }
+            }
         };
-        left = &left[step..];
     }
-    None
+    if at < joined.len() {
+        things.push(Thing { at, what: What::Tail });
+    }
+    Ok(things)
+}
+
+/// Flush gives the pending bytes if their head reads.
+fn cut_by_flush(code: u32, pending: &[u8]) -> Result<Vec<Thing>, Left> {
+    met(taken_out(code, pending), Asked::Flush)?;
+    let frame = |(_, geometry)| Thing { at: 0, what: What::Frame(Stamped::Flushed, geometry) };
+    Ok(read(code, pending).map(frame).into_iter().collect())
+}
+
+/// The reader is asked there about a head that a request took out, or about another one.
+fn met(request: Option<Request>, asked: Asked) -> Result<(), Left> {
+    request.map_or(Ok(()), |request| Err(Left::Head(request, asked)))
+}
+
+/// The request that took out the head behind a frame, about which the reader is asked if there are
+/// bytes enough for one.
+fn second_head(code: u32, behind: &[u8]) -> Option<Request> {
+    match behind.len() < need(code) {
+        true => None,
+        false => taken_out(code, behind),
+    }
 }
 
 /// Header needs: 8, 4, 7 bytes.
@@ -169,10 +248,11 @@ fn need(code: u32) -> usize {
 }
 
 fn reads(code: u32, head: &[u8]) -> bool {
-    length(code, head).is_some()
+    read(code, head).is_some()
 }
 
-/// The length that a head says.
-fn length(code: u32, head: &[u8]) -> Option<usize> {
-    answers::read(code, head).map(|[_, length, ..]| length as usize)
+/// The length that a head says, and its geometry.
+fn read(code: u32, head: &[u8]) -> Option<(usize, Geometry)> {
+    let [_, length, samples, rate, ..] = answers::read(code, head)?;
+    Some((length as usize, (samples, rate)))
 }

@@ -1,5 +1,6 @@
 //! The program `cutsheet` in Rust, over the module as requested, as a careful Rust programmer would
-//! write it. It prints the sheet of its standard input; ours is measured beside it.
+//! write it. It prints the sheet of its standard input. Ours is measured beside it, over the module as
+//! it was published.
 
 use sheet::{digits, model, requested, text};
 use std::io::{self, BufWriter, StdinLock, StdoutLock, Write};

@@ -32,7 +32,8 @@ impl Input {
 /// What comes in every run, then so many inputs by chance, then the large ones, which take longest.
 pub fn all(count: u64, seed: u64, demos: &[Demo]) -> impl Iterator<Item = Input> + '_ {
     let small = spelled().chain(malformed()).chain(each_sort(seed)).chain(edges::inputs(seed));
-    let small = small.chain(edges::outside()).chain(first_line_pairs());
+    let small = small.chain(edges::outside()).chain(edges::changes()).chain(edges::tails());
+    let small = small.chain(edges::tails_again()).chain(first_line_pairs());
     let fixed = small.chain(demo::inputs(demos, seed));
     let by_chance = (0..count).map(move |n| by_chance(demos, random(seed, n)));
     fixed.chain(by_chance).chain(large::inputs(seed))

@@ -1,15 +1,16 @@
 //! Streams of some kilobytes, so that they go through several payloads.
 
-use common::frames::{filled, frame, kinds, likely, NEVER};
+use common::frames::{filled, frame, kinds, likely, short_head, NEVER};
 use common::random::Random;
 use common::samples::{self, Bytes};
 use common::soup::{self, Sort};
+use common::tunes;
 
 /// Makes a stream of frames of a syntax, or of what is made from them, about so many bytes long.
 pub type Maker = fn(u32, usize, &mut Random) -> Vec<u8>;
 
 /// All sorts of streams.
-pub const SORTS: [(&str, Maker); 13] = [
+pub const SORTS: [(&str, Maker); 15] = [
     ("any bytes", any_bytes),
     ("frames of one head", one_head),
     ("frames of any heads", any_heads),
@@ -23,6 +24,8 @@ pub const SORTS: [(&str, Maker); 13] = [
     ("junk first", junk_first),
     ("junk between", junk_between),
     ("pieces of frames", pieces),
+    ("frames of one geometry", one_geometry),
+    ("joined tracks", joined),
 ];
 
 /// One short frame in so many of E-AC-3 and ADTS is outside the domain of equality. A stream has
@@ -30,8 +33,16 @@ pub const SORTS: [(&str, Maker); 13] = [
 const OUTSIDE: [u64; 5] = [10, 40, 160, NEVER, NEVER];
 
 /// Streams of undamaged frames.
-const WHOLE: [Maker; 6] =
-    [one_head, any_heads, short_frames, shortest_frames, longest_frames, even_frames];
+const WHOLE: [Maker; 8] = [
+    one_head,
+    any_heads,
+    short_frames,
+    shortest_frames,
+    longest_frames,
+    even_frames,
+    one_geometry,
+    joined,
+];
 
 /// At least so many bytes, part by part.
 fn grown(len: usize, mut part: impl FnMut() -> Vec<u8>) -> Vec<u8> {
@@ -122,6 +133,18 @@ fn longest_frames(code: u32, len: usize, random: &mut Random) -> Vec<u8> {
         3..=5 => vec![(12, 1, 1), (16, 4, 14), (20, 2, 2)],
         _ => vec![(30, 13, 8_191 - random.below(2))],
     })
+}
+
+/// Of several lengths, so that they are cut anywhere at the ends of payloads, and inside the domain.
+fn one_geometry(code: u32, len: usize, random: &mut Random) -> Vec<u8> {
+    let kind = random.pick(kinds(code));
+    let head = short_head(kind, NEVER, random);
+    grown(len, || tunes::track(kind, head, 8, random))
+}
+
+/// Of two to four geometries, and of others after a while.
+fn joined(code: u32, len: usize, random: &mut Random) -> Vec<u8> {
+    grown(len, || tunes::joined(code, random))
 }
 
 /// Frames of one length of which 4096 is a multiple, so that each payload ends with a frame.

@@ -38,7 +38,11 @@ pub enum End {
 pub fn longest_frame(end: End, talk: &mut Talk, random: &mut Random) {
     let mut stream = adts(8_191, random.pick(&[0x00, 0xFF, 0x55]));
     stream.extend(adts(7 + random.below(9), 0x00));
-    let first = random.pick(&[7, 184, 4_095, 4_096, 8_189]);
+    let first = match end {
+        // The sheet's payloads have so many.
+        End::Flush => 4_096,
+        _ => random.pick(&[7, 184, 4_095, 4_096, 8_189]),
+    };
     talk.ask(Call::New(2));
     talk.push(Some(90_000), &stream[..first]);
     talk.push(None, &stream[first..8_190]);

@@ -122,11 +122,13 @@ fn three_payloads(all: &mut Vec<Short>, code: u32, bytes: &[u8], pattern: impl F
 }
 
 impl Short {
-    /// Pushes its payloads to a new splitter, or to one that is locked and has an anchor. Flushes.
-    pub fn tell(&self, locked: bool, talk: &mut Talk) {
-        talk.ask(match locked {
-            false => Call::New(self.code),
-            true => Call::Set(locked_state(self.code), Vec::new()),
+    /// Pushes its payloads to a new splitter, or to one that is locked and has an anchor: by the number
+    /// of the stream, which also says whether another call stands between two payloads. Flushes.
+    pub fn tell(&self, number: u64, talk: &mut Talk) {
+        talk.ask(match number % 8 {
+            0 => Call::Set(locked_state(self.code, false), Vec::new()),
+            4 => Call::Set(locked_state(self.code, true), Vec::new()),
+            _ => Call::New(self.code),
         });
         let [first, second] = self.cuts;
         let payloads = [&self.bytes[..first], &self.bytes[first..second], &self.bytes[second..]];
@@ -135,6 +137,12 @@ impl Short {
             // Without a timestamp an empty payload at the end would bring nothing new.
             if !payload.is_empty() || is_stamped || n < 2 {
                 talk.push(is_stamped.then_some(1_000 + 8_000 * n as i64), payload);
+            }
+            match (n, number % 29) {
+                (0, 3) | (1, 9) => talk.flush(),
+                (0, 13) => talk.ask(Call::Reset),
+                (0, 23) => talk.ask(Call::Unlock),
+                _ => {}
             }
         }
         talk.flush();
@@ -149,7 +157,8 @@ pub fn pending_words(talk: &mut Talk) {
     for (code, word) in words {
         for cut in 0..=word.len() {
             let (first, second) = word.split_at(cut);
-            for state in [State::new(code), locked_state(code)] {
+            let states = [State::new(code), locked_state(code, false), locked_state(code, true)];
+            for state in states {
                 let state = State { pending: cut as u64, pts: Some(77), ..state };
                 talk.ask(Call::Set(state, first.to_vec()));
                 talk.flush();
@@ -159,8 +168,14 @@ pub fn pending_words(talk: &mut Talk) {
     }
 }
 
-/// Locked, and with an anchor.
-fn locked_state(code: u32) -> State {
-    let anchor = Anchor { pts: 500, frames: 3, samples: 1_152, rate: 44_100 };
+/// Locked, and with an anchor: of the geometry of the code's first word, or marked and of another.
+fn locked_state(code: u32, unread: bool) -> State {
+    let (samples, rate) = match code {
+        _ if unread => (1_152, 44_100),
+        0 => (1_536, 48_000),
+        1 => (576, 24_000),
+        _ => (1_024, 44_100),
+    };
+    let anchor = Anchor { pts: 500, frames: 3, samples, rate, unread };
     State { anchor: Some(anchor), locked: true, ..State::new(code) }
 }

@@ -1,11 +1,16 @@
 //! States that are set: about each bound, or such as no call leaves behind, and calls on them.
 
 use super::talk::{any_time, Talk, FAR};
+use crate::answers;
 use crate::call::{Call, Lent, MOST_PENDING};
 use crate::state::{Anchor, State};
 use common::frames::NEVER;
 use common::random::Random;
 use common::soup::{stream, stream_with, Sort};
+
+/// What streams are made as. Frames of one geometry may stay inside the domain of equality.
+const SORTS: [Sort; 6] =
+    [Sort::Whole, Sort::Damaged, Sort::Pieces, Sort::Sparse, Sort::OneGeometry, Sort::Joined];
 
 /// One of `usual`, or one time in `rarely` one of `others`.
 fn mostly<T: Copy>(usual: &[T], rarely: u64, others: &[T], random: &mut Random) -> T {
@@ -20,7 +25,7 @@ fn mostly<T: Copy>(usual: &[T], rarely: u64, others: &[T], random: &mut Random) 
 pub fn all_grounds(talk: &mut Talk) {
     for first in 7..=13 {
         let frames = if first <= 11 { 4_294_000_001 } else { 4_294_000_000 };
-        let anchor = Anchor { pts: 0, frames, samples: 4_096, rate: 48_000 };
+        let anchor = Anchor { pts: 0, frames, samples: 4_096, rate: 48_000, unread: false };
         let state = State {
             code: if first <= 7 { 3 } else { 2 },
             pending: if first <= 8 { 8_191 } else { 8_190 },
@@ -47,7 +52,7 @@ pub fn set_and_go_on(talk: &mut Talk, random: &mut Random) {
         code,
         pending: pending(bytes.len(), rarely, random),
         pts: if random.below(3) == 0 { any_stamp(random) } else { any_time(random) },
-        anchor: anchor(rarely, random),
+        anchor: anchor(code, &bytes, rarely, random),
         discarded: mostly(
             &[0, 77, (1 << 62) - 99, 1 << 62],
             rarely,
@@ -69,8 +74,7 @@ fn call(code: u32, talk: &mut Talk, random: &mut Random) {
         4 => talk.ask(Call::Unlock),
         5 => talk.ask(Call::New(random.pick(&[code, 0, 1, 2, 3, 4, 1 << 31, u32::MAX]))),
         _ => {
-            let sort = random.pick(&[Sort::Whole, Sort::Damaged, Sort::Pieces, Sort::Sparse]);
-            let mut bytes = stream(sort, code.min(2), random);
+            let mut bytes = stream(random.pick(&SORTS), code.min(2), random);
             bytes.truncate(400);
             talk.feed(&bytes, random);
         }
@@ -79,10 +83,9 @@ fn call(code: u32, talk: &mut Talk, random: &mut Random) {
 
 /// Bytes for the front of the pending buffer: none, pieces of frames, or whole frames too.
 fn pending_bytes(code: u32, random: &mut Random) -> Vec<u8> {
-    let sort = random.pick(&[Sort::Whole, Sort::Damaged, Sort::Pieces, Sort::Sparse]);
     // A flush asks about a head outside the domain only where that is the first.
     let outside = random.pick(&[2, 15, NEVER]);
-    let mut bytes = stream_with(sort, code.min(2), outside, random);
+    let mut bytes = stream_with(random.pick(&SORTS), code.min(2), outside, random);
     bytes.truncate(match random.below(4) {
         0 => 0,
         1 => random.below(9) as usize,
@@ -107,12 +110,14 @@ fn any_stamp(random: &mut Random) -> Option<i64> {
     Some(random.pick(&[any, i64::MIN, i64::MAX]))
 }
 
-fn anchor(rarely: u64, random: &mut Random) -> Option<Anchor> {
+/// Mostly one that is within the bounds. Half of those of bytes that begin with a head have its
+/// geometry.
+fn anchor(code: u32, bytes: &[u8], rarely: u64, random: &mut Random) -> Option<Anchor> {
     let near = random.word() as i64 >> (2 + random.below(61));
     let any_samples = random.below(4_097) as u32;
     let any_rate = random.word() as u32 >> random.below(32);
     let any_frames = random.below(4_294_000_001) as u32 >> random.below(32);
-    let anchor = Anchor {
+    let mut anchor = Anchor {
         pts: mostly(&[near, near, FAR[0], FAR[1], FAR[2]], rarely, &FAR[5..], random),
         frames: mostly(
             &[0, 1, any_frames, any_frames, 4_293_999_990, 4_294_000_000],
@@ -122,6 +127,10 @@ fn anchor(rarely: u64, random: &mut Random) -> Option<Anchor> {
         ),
         samples: mostly(&[0, 1_024, 1_152, any_samples, 4_096], rarely, &[4_097, u32::MAX], random),
         rate: random.pick(&[0, 1, 44_100, 48_000, any_rate, u32::MAX]),
+        unread: random.below(3) == 0,
     };
+    if let (Some([_, _, samples, rate, ..]), 0) = (answers::read(code, bytes), random.below(2)) {
+        (anchor.samples, anchor.rate) = (samples, rate);
+    }
     (random.below(4) > 0).then_some(anchor)
 }

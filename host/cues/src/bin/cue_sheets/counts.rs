@@ -11,23 +11,28 @@ use sheet::inputs::input::STREAMS;
 use sheet::inputs::long::SORTS;
 use sheet::inputs::{edges, large};
 use std::fmt;
+use std::ops::Range;
 
-/// What must be seen: groups, and what is told apart in each.
+/// What must be seen: groups, and what is told apart in each. A sheet has one timestamp, and since K7 its
+/// stamps never fall; `cue` is asked about such lists too.
 #[rustfmt::skip]
 const GROUPS: [(&str, &[&str]); 9] = [
-    ("inputs", &["by hand", "spelled out", edges::ENDS, edges::BEGINNINGS, edges::OUTSIDE]),
+    ("inputs", &["by hand", "spelled out", edges::ENDS, edges::BEGINNINGS, edges::OUTSIDE, edges::CHANGES, edges::TAILS]),
     ("inputs handed over", &["whole", "in pieces", "slowly", "as a file"]),
     ("first lines, spelled", &SPELLINGS),
     ("first lines, times", &["1", "2 to 31", "32"]),
     ("times", &TIMES),
-    ("sheets", &["without frames", "without stamps", "stamps rise", "stamps fall"]),
+    ("sheets", &["without frames", "without stamps", "stamps rise"]),
     ("answers", &["a line", "none, though there are stamps", "none, and no stamp", "none, and no frame"]),
     ("lines found", &["the first", "between", "the last", "of an earlier push", "of the last push that has lines"]),
-    ("lines found, stamps", &["the latest in time", "not the latest", "the same before", "a later one before"]),
+    ("lines found, geometry", &["of the line before", "another than the line before"]),
 ];
 
 /// The group of stamps that only a large stream has.
 const OF_LARGE_STREAMS: &str = "lines found, stamps of large streams";
+
+/// Samples and rate of a row.
+const GEOMETRY: Range<usize> = 2..4;
 
 pub struct Counts {
     counts: counts::Counts,
@@ -88,13 +93,13 @@ impl Counts {
                 None if sheet.lines.is_empty() => self.add("answers", "none, and no frame"),
                 None if stamps.is_empty() => self.add("answers", "none, and no stamp"),
                 None => self.add("answers", "none, though there are stamps"),
-                Some(place) => self.found(place, time, asks, sheet),
+                Some(place) => self.found(place, asks, sheet),
             }
         }
     }
 
     /// A line, and what a program could take for it.
-    fn found(&mut self, place: usize, time: i64, asks: &Asks, sheet: &Sheet) {
+    fn found(&mut self, place: usize, asks: &Asks, sheet: &Sheet) {
         self.add("answers", "a line");
         let last = sheet.lines.len() - 1;
         let where_it_is = match place {
@@ -108,23 +113,18 @@ impl Counts {
         let push =
             if is_earlier { "of an earlier push" } else { "of the last push that has lines" };
         self.add("lines found", push);
-        self.stamps(place, time, sheet);
+        self.stamps(place, sheet);
     }
 
-    /// How the stamp of a line stands to those before it.
-    fn stamps(&mut self, place: usize, time: i64, sheet: &Sheet) {
-        let stamp = sheet.rows[place * WIDTH + STAMP];
-        let before = || sheet.rows[..place * WIDTH].chunks(WIDTH).filter(|row| row[MARK] == 1);
-        let is_latest = before().all(|row| row[STAMP] <= stamp || row[STAMP] > time);
-        let name = if is_latest { "the latest in time" } else { "not the latest" };
-        self.add("lines found, stamps", name);
-        if before().any(|row| row[STAMP] == stamp) {
-            self.add("lines found, stamps", "the same before");
+    /// Whether the tune changes its rate there; and how late it is.
+    fn stamps(&mut self, place: usize, sheet: &Sheet) {
+        let row = |place: usize| &sheet.rows[place * WIDTH..][..WIDTH];
+        if let Some(before) = place.checked_sub(1) {
+            let is_same = row(before)[GEOMETRY] == row(place)[GEOMETRY];
+            let name = if is_same { "of the line before" } else { "another than the line before" };
+            self.add("lines found, geometry", name);
         }
-        if before().any(|row| row[STAMP] > time) {
-            self.add("lines found, stamps", "a later one before");
-        }
-        if stamp >= 1 << 32 {
+        if row(place)[STAMP] >= 1 << 32 {
             self.add(OF_LARGE_STREAMS, "2^32 or more");
         }
     }

@@ -2,7 +2,7 @@
 
 use common::counts::{self, group};
 use common::feed::Feed;
-use oracle::domain::{Asked, Left};
+use oracle::domain::{Asked, Left, Stamped};
 use sheet::inputs::demo::{self, Demo};
 use sheet::inputs::input::{Input, STREAMS};
 use sheet::inputs::long::SORTS;
@@ -16,8 +16,8 @@ use std::ops::Range;
 /// What must be seen: groups, and what is told apart in each. No sheet flushes, so that none leaves
 /// the domain there.
 #[rustfmt::skip]
-const GROUPS: [(&str, &[&str]); 15] = [
-    ("inputs", &["spelled out", "every first byte, every second byte", edges::ENDS, edges::BEGINNINGS, edges::OUTSIDE]),
+const GROUPS: [(&str, &[&str]); 17] = [
+    ("inputs", &["spelled out", "every first byte, every second byte", edges::ENDS, edges::BEGINNINGS, edges::OUTSIDE, edges::CHANGES, edges::TAILS]),
     ("inputs handed over", &["whole", "in pieces", "slowly", "as a file"]),
     ("first payloads", &["none", "taken", "not taken", "not taken, but a later one"]),
     ("sheets", &["question mark", "with frames", "without frames", "bytes discarded", "none discarded", "bytes pending", "none pending"]),
@@ -32,13 +32,20 @@ const GROUPS: [(&str, &[&str]); 15] = [
     ("frames, domain", &["inside", "outside"]),
     (Left::GROUPS[0], &[Asked::NAMES[0], Asked::NAMES[1], Asked::NAMES[2]]),
     (Left::GROUPS[1], &[Asked::NAMES[0], Asked::NAMES[1], Asked::NAMES[2]]),
+    (Left::GROUPS[2], &[Stamped::NAMES[0], Stamped::NAMES[1], Stamped::NAMES[3]]),
+    (BEHIND, &["another rate", "other samples", "both"]),
 ];
+
+/// Frames with a stamp behind one of another geometry.
+const BEHIND: &str = "frames with a stamp behind";
 
 /// How long a frame's line is.
 const LINE: usize = 63;
 
-/// Where its columns from the length to the bit rate stand, and where the stamp.
+/// Where its columns from the length to the bit rate stand, where samples, rate and stamp.
 const GEOMETRY: Range<usize> = 9..41;
+const SAMPLES: Range<usize> = 18..23;
+const RATE: Range<usize> = 24..30;
 const STAMP: Range<usize> = 42..62;
 
 /// The groups of the columns from the length on.
@@ -107,6 +114,7 @@ impl Counts {
             let stamp = std::str::from_utf8(&line[STAMP]).unwrap_or_default().trim_start();
             *geometries.entry((&line[GEOMETRY], stamp_name(stamp))).or_default() += 1;
         }
+        self.changes(lines);
         for ((geometry, stamp), times) in geometries {
             let text = String::from_utf8_lossy(geometry);
             let mut columns = text.split_whitespace();
@@ -116,6 +124,20 @@ impl Counts {
             let is_absent = columns.next() == Some("-");
             self.add("frames, bit rate", if is_absent { "absent" } else { "present" }, times);
             self.add("frames, stamp", stamp, times);
+        }
+    }
+
+    /// Where the geometry changes from one frame to the next, which has a stamp.
+    fn changes(&mut self, lines: &[u8]) {
+        let lines: Vec<&[u8]> = lines.chunks(LINE).collect();
+        for pair in lines.windows(2).filter(|pair| !pair[1][STAMP].ends_with(b"-")) {
+            let is_other = |column: Range<usize>| pair[0][column.clone()] != pair[1][column];
+            match (is_other(RATE), is_other(SAMPLES)) {
+                (true, false) => self.add(BEHIND, "another rate", 1),
+                (false, true) => self.add(BEHIND, "other samples", 1),
+                (true, true) => self.add(BEHIND, "both", 1),
+                (false, false) => {}
+            }
         }
     }
 
@@ -140,7 +162,7 @@ impl Counts {
         self.add("sheets, domain", side, 1);
         self.add("frames, domain", "inside", frames_inside as u64);
         self.add("frames, domain", "outside", (frames - frames_inside) as u64);
-        inside.left.iter().for_each(|left| self.add(left.group(), left.asked.name(), 1));
+        inside.left.iter().for_each(|left| self.add(left.group(), left.name(), 1));
     }
 
     fn add(&mut self, group: &'static str, name: &str, times: u64) {

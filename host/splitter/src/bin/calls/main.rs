@@ -5,13 +5,14 @@
 //!
 //! In this order: document 01's S1 to S8; its small inputs of numbers 7 to 12; the order of the
 //! numbers; the first of its four wrong turns (the others are S4, S5 and S2); the readings; what
-//! requests K3 and K6 changed; malformed lines; short streams cut in two and three; streams and states by
-//! chance. The answers are those of the module as requested. Answers written by hand are held to
-//! them, and inside the domain of equality to the unchanged module's, and nothing is written where
-//! they differ.
+//! requests K3, K6 and K7 changed; malformed lines; short streams cut in two and three; combinations
+//! of what K7 tells apart; streams and states by chance. The answers are those of the module as
+//! requested. Answers written by hand are held to them, and inside the domain of equality to the
+//! unchanged module's, and nothing is written where they differ.
 
 mod cases;
 mod changes;
+mod stamps;
 
 use cases::{Case, CORNERS, NUMBERS, ORDER, READINGS};
 use cases::{LAST_STAMP, STEPS, STEP_BYTES, STEP_HEAD, STEP_START};
@@ -21,13 +22,17 @@ use common::soup::{stream, Sort};
 use splitter::call::Call;
 use splitter::calls::malformed::WAYS;
 use splitter::calls::talk::{Exchange, Talk};
-use splitter::calls::{short, states};
+use splitter::calls::{short, states, tunes};
 use splitter::model::Model;
 use splitter::oracles::{Answers, Oracles};
+use stamps::STAMPS;
 use std::process::ExitCode;
 
 /// One of so many short streams is stored.
 const EVERY_SHORT: usize = 941;
+
+/// One of so many combinations that K7 tells apart is.
+const EVERY_TUNE: usize = 61;
 
 /// Sequences by chance: so many, none of them longer than this as text.
 const BY_CHANCE: usize = 48;
@@ -62,10 +67,11 @@ fn write(inputs: &str, answers: &str) -> Result<(), String> {
     cases.into_iter().try_for_each(|case| list.case(case))?;
     list.steps()?;
     READINGS.iter().try_for_each(|case| list.case(case))?;
-    let changed = ADTS_HEADS.iter().chain(&STREAM_TYPES);
+    let changed = ADTS_HEADS.iter().chain(&STREAM_TYPES).chain(&STAMPS);
     changed.into_iter().try_for_each(|case| list.changed(case))?;
     WAYS.iter().flat_map(|(_, lines)| *lines).for_each(|line| drop(list.ask(line)));
     list.short_streams();
+    list.tunes();
     list.by_chance();
     let text = |lines: &[String]| lines.iter().map(|line| format!("{line}\n")).collect::<String>();
     std::fs::write(inputs, text(&list.lines))
@@ -93,20 +99,24 @@ impl List {
     }
 
     /// A case that a request changed, with the answers from before and from now on. It must leave
-    /// the domain where it says so.
+    /// the domain where it says so, and come back.
     fn changed(&mut self, case: &Changed) -> Result<(), String> {
         let mut unchanged = Model::default();
-        let mut left = None;
+        let (mut left, mut sides) = (None, String::new());
         for (line, before, now) in case.turns {
             let answers = self.ask(line);
             same(case.name, line, now, "as requested", &answers.requested.text())?;
-            let answer = unchanged.answer(&call(line)).text();
-            same(case.name, line, before.unwrap_or(now), "unchanged", &answer)?;
+            let mut answer = unchanged.answer(&call(line));
+            if before.is_none() {
+                answer.state.take_mark(&answers.requested.state);
+            }
+            same(case.name, line, before.unwrap_or(now), "unchanged", &answer.text())?;
             left = left.or(answers.left);
+            sides.push(if answers.is_inside() { 'i' } else { 'o' });
         }
-        match left == case.left {
+        match left == case.left && case.sides.is_none_or(|right| sides == right) {
             true => Ok(()),
-            false => Err(format!("{}: leaves the domain at {left:?}", case.name)),
+            false => Err(format!("{}: leaves the domain at {left:?}: {sides}", case.name)),
         }
     }
 
@@ -127,7 +137,15 @@ impl List {
     fn short_streams(&mut self) {
         let mut talk = Talk::default();
         for (n, short) in short::all().into_iter().step_by(EVERY_SHORT).enumerate() {
-            short.tell(n % 2 == 0, &mut talk);
+            short.tell(4 * n as u64, &mut talk);
+            self.add(talk.take());
+        }
+    }
+
+    fn tunes(&mut self) {
+        let mut talk = Talk::default();
+        for tune in tunes::all().into_iter().step_by(EVERY_TUNE) {
+            tune.tell(&mut talk);
             self.add(talk.take());
         }
     }
@@ -137,11 +155,11 @@ impl List {
     fn by_chance(&mut self) {
         let mut random = Random::new(1);
         let mut talk = Talk::default();
-        let sorts = [Sort::Whole, Sort::Damaged, Sort::Pieces, Sort::Sparse];
+        let sorts = [Sort::Whole, Sort::Damaged, Sort::Joined, Sort::Pieces, Sort::Sparse];
         let mut stored = 0;
         while stored < BY_CHANCE {
-            let (code, sort) = (stored as u32 % 3, sorts[stored % 4]);
-            if stored % 5 == 4 {
+            let (code, sort) = (stored as u32 % 3, sorts[stored % 5]);
+            if stored % 7 == 6 {
                 states::set_and_go_on(&mut talk, &mut random);
             } else {
                 talk.ask(Call::New(code));

@@ -1,7 +1,8 @@
 //! How many calls of each kind were compared, and what they did.
 
+use crate::stamps;
 use common::counts::{self, group};
-use oracle::domain::{Asked, Left};
+use oracle::domain::{Asked, Left, Stamped};
 use splitter::answer::{Answer, Outcome};
 use splitter::call::{Call, Lent};
 use splitter::calls::malformed::WAYS;
@@ -12,7 +13,7 @@ use std::fmt;
 
 /// What must be seen: groups, and what is told apart in each. Calls outside the domain of equality
 /// are compared with the module as requested alone.
-const GROUPS: [(&str, &[&str]); 24] = [
+const GROUPS: [(&str, &[&str]); 29] = [
     ("calls", &["new", "set", "push", "flush", "reset", "unlock", "malformed"]),
     ("new splitters", &["made", "refused 7"]),
     ("pushes", &["taken", "not taken"]),
@@ -35,8 +36,14 @@ const GROUPS: [(&str, &[&str]); 24] = [
     ("calls, domain", SIDES),
     ("pushes made, domain", SIDES),
     ("frames, domain", SIDES),
+    ("calls that leave a marked anchor, domain", SIDES),
     (Left::GROUPS[0], &Asked::NAMES),
     (Left::GROUPS[1], &Asked::NAMES),
+    (Left::GROUPS[2], &Stamped::NAMES),
+    // Then the calls are compared with both modules once more.
+    ("runs brought back by", &["reset", "unlock"]),
+    ("calls inside again", &["push", "flush", "reset", "unlock"]),
+    ("frames inside again", &["with a stamp", "without"]),
 ];
 
 /// Of the domain.
@@ -56,7 +63,8 @@ impl Counts {
     /// No call yet.
     pub fn new() -> Counts {
         let malformed = group(MALFORMED, &WAYS.map(|(name, _)| name));
-        let groups = GROUPS.map(|(name, names)| group(name, names)).into_iter().chain([malformed]);
+        let groups = GROUPS.into_iter().chain(stamps::GROUPS);
+        let groups = groups.map(|(name, names)| group(name, names)).chain([malformed]);
         Counts { counts: counts::Counts::new(groups.collect()) }
     }
 
@@ -66,6 +74,9 @@ impl Counts {
         let answer = &answers.requested;
         self.add("calls", call_name(call));
         self.domain(call, answers);
+        for (group, name) in stamps::seen(call, before, answer) {
+            self.add(group, name);
+        }
         match call {
             Call::New(_) => self.add("new splitters", outcome_name(answer, ["made", ""])),
             Call::Push(pts, lent, payload) => self.push(*pts, lent, payload.len(), before, answer),
@@ -83,7 +94,20 @@ impl Counts {
             self.add("pushes made, domain", side);
         }
         self.counts.add("frames, domain", side, answer.rows.len() as u64);
-        left.iter().for_each(|left| self.add(left.group(), left.asked.name()));
+        if answer.state.anchor.is_some_and(|anchor| anchor.unread) {
+            self.add("calls that leave a marked anchor, domain", side);
+        }
+        left.iter().for_each(|left| self.add(left.group(), left.name()));
+        if answers.is_back {
+            self.add("runs brought back by", call_name(call));
+        }
+        if answers.is_inside_again {
+            self.add("calls inside again", call_name(call));
+            for [.., present, _] in &answer.rows {
+                let name = if *present == 1 { "with a stamp" } else { "without" };
+                self.add("frames inside again", name);
+            }
+        }
     }
 
     fn push(&mut self, pts: Option<i64>, lent: &Lent, len: usize, before: &State, answer: &Answer) {

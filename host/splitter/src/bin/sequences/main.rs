@@ -4,6 +4,7 @@
 //! with status 1 at the first difference, or where something that should be seen never was.
 
 mod counts;
+mod stamps;
 
 use common::asking::{self, Pieces};
 use common::random::Random;

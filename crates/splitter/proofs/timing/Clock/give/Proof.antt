@@ -1,64 +1,77 @@
--- A frame that began in the payload takes the stamp of such a thing; one that began in pending bytes the pending stamp,
--- or else a worked out one.
-use mathlib.Core.Path.{_≡_}
+-- A head that changes nothing is passed by quickly; else the anchor learns, the frame is stamped, and the anchor moves.
+use mathlib.Core.Path.{_∙_, sym}
 use borrow.Author.Tests.{not-true, not-false}
-use mir.Val.{toZ, ofZ}
-use mir.Syntax.{w64}
-use Rattle.splitter.specs.Stamp.{give, voided}
-use Rattle.splitter.specs.Clocks.{interpolated, takenStamp}
+use Rattle.splitter.proofs.Clocks.{good-learnt, known-given, give-new, give-early}
 use borrow.Author.Needs.{needs}
 use Rattle.splitter.proofs.timing.Clock.give.Statement.{statement}
 use Rattle.splitter.proofs.timing.Clock.give.Tie as tie
 
-take-stamp-requires : tie.Need-take-stamp-requires
-take-stamp-requires c κs = search needs
+of-requires : tie.Need-of-requires
+of-requires c κs = search needs
+
+knows-requires : tie.Need-knows-requires
+knows-requires c κs = search needs
+
+stamp-known-requires : tie.Need-stamp-known-requires
+stamp-known-requires c κs = search needs
 
 returns : tie.Need-returns
-unfolding takenStamp give
-returns c = rw (c .take-stamp .ensures, not-true (c .before .before .args .early) (c .before .if1 .taken))
+returns c =
+    let s = c .before .before .before .before .before in
+    rw (c .stamp-known .ensures, c .before .before .before .before .of .ensures)
+    (known-given (s .args .info) (s .args .early) (s .args .self)
+    (rw (← c .before .before .before .before .of .ensures) (sym (c .before .before .knows .ensures) ∙ c .before .if1 .taken)))
 
-enum-known-residual-pts : tie.Need-enum-known-residual-pts
-enum-known-residual-pts c = search needs
-
-enum-told : tie.Need-enum-told
-enum-told c = search needs
-
-interpolate-requires : tie.Need-interpolate-requires
-interpolate-requires c κs = search needs
+stamp-read-requires : tie.Need-stamp-read-requires
+stamp-read-requires c κs =
+    let s = c .before .before .before .before .before in
+    (s .pre .0, rw (c .before .before .before .before .of .ensures) (s .pre .1))
 
 returns-2 : tie.Need-returns-2
-unfolding interpolated give
-returns-2 c = rw (
-  c .interpolate .ensures,
-  not-false (c .before .before .before .before .before .args .early) (c .before .before .before .before .if1 .left),
-  c .before .enum-told .given .1,
-)
+returns-2 c =
+    let s = c .before .before .before .before .before .before in
+    rw (
+      c .stamp-read .ensures,
+      c .before .before .before .before .before .of .ensures,
+      not-true (s .args .early) (c .before .if2 .taken),
+    )
+    (give-new (s .args .info) (s .args .self))
 
-voided-requires : tie.Need-voided-requires
-voided-requires c κs = search needs
+learn-requires : tie.Need-learn-requires
+learn-requires c κs = search needs
+
+resume-requires : tie.Need-resume-requires
+resume-requires c κs =
+    let s = c .before .before .before .before .before .before in
+    let g = c .before .before .before .before .before .of in
+    rw (c .learn .ensures) (good-learnt (g .result) (s .pre .0) (rw (g .ensures) (s .pre .1)))
+
+move-to-requires : tie.Need-move-to-requires
+move-to-requires c κs = search needs
 
 returns-3 : tie.Need-returns-3
-unfolding voided give
 returns-3 c =
-    let h = c .before .before .residual-pts .given in
-    let x : toZ w64 (ofZ w64 (h .0 .0)) ≡ h .0 .0 = search needs in
+    let s = c .before .before .before .before .before .before .before .before in
     rw (
-      x,
-      c .voided .ensures,
-      not-false (c .before .before .before .before .before .before .args .early)
-          (c .before .before .before .before .before .if1 .left),
-      h .1,
+      c .move-to .ensures,
+      c .before .resume .ensures,
+      c .before .before .learn .ensures,
+      c .before .before .before .before .before .before .before .of .ensures,
+      not-false (s .args .early) (c .before .before .before .if2 .left),
     )
+    (give-early (s .args .info) (s .args .self))
 
 pub give-spec : {M : Type 1} → statement M
 give-spec =
     tie.close
     (tie.spec
-    take-stamp-requires
+    of-requires
+    knows-requires
+    stamp-known-requires
     returns
-    enum-known-residual-pts
-    enum-told
-    interpolate-requires
+    stamp-read-requires
     returns-2
-    voided-requires
+    learn-requires
+    resume-requires
+    move-to-requires
     returns-3)

@@ -31,19 +31,19 @@ enum-told c = search needs
 returns : tie.Need-returns
 returns c =
     let s = c .before .before .before in
-    interpolated-free (s .args .self) (s .args .geometry) (c .enum-told .given .1)
+    interpolated-free (s .args .self) (c .enum-told .given .1)
 
 stamp-requires : tie.Need-stamp-requires
 stamp-requires c κs =
     let h = c .before in
     let s = start h in
-    (s .pre .0 .held .steady (h .held .given .0 .0) (h .held .given .1), s .pre .1)
+    s .pre .held .steady (h .held .given .0 .0) (h .held .given .1)
 
-add-t9 : tie.Need-add-t9
-add-t9 c =
+add-t8 : tie.Need-add-t8
+add-t8 c =
     let k = held (c .before) in
     let h = k .held .given in
-    omega (arith, start k .pre .0 .held .steady (h .0 .0) (h .1) .since)
+    omega (arith, start k .pre .held .steady (h .0 .0) (h .1) .since)
 
 anchored-requires : tie.Need-anchored-requires
 anchored-requires c κs = search needs
@@ -56,9 +56,9 @@ returns-2 c =
     let t = stamped c .stamp in
     let x : toZ w64 (ofZ w64 (t .result)) ≡ t .result = search needs in
     let y : toZ w64 (ofZ w64 (h .0 .0 .pts)) ≡ h .0 .0 .pts = search needs in
-    rw (c .anchored .ensures, x, t .ensures, y) (interpolated-to (s .args .self) (s .args .geometry) (h .0 .0) (h .1))
+    rw (c .anchored .ensures, x, t .ensures, y) (interpolated-to (s .args .self) (h .0 .0) (h .1))
 
 pub interpolate-spec : {M : Type 1} → statement M
 interpolate-spec =
     tie.close
-    (tie.spec enum-known-held enum-told returns stamp-requires add-t9 anchored-requires returns-2)
+    (tie.spec enum-known-held enum-told returns stamp-requires add-t8 anchored-requires returns-2)
