@@ -1,6 +1,6 @@
 -- What the program prints, computed: three ADTS frames, and three times. Assumes nothing.
 use mathlib.Core.Path.{_≡_, refl}
-use mathlib.Core.List.{List, [], _∷_, _++_}
+use mathlib.Core.List.{[], _∷_, _++_}
 use lib.IntN.{pos, negsuc}
 use Rattle.heads.specs.Bits.{number}
 use Rattle.heads.specs.Judge.{refuseIf}

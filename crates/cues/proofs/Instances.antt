@@ -3,7 +3,7 @@
 use mathlib.Core.Path.{_≡_, refl}
 use mathlib.Core.Option.{none, some}
 use mathlib.Core.List.{List, [], _∷_, _++_}
-use Prim.Native.Nat.{ℕ, zero, suc, _<_}
+use Prim.Native.Nat.{zero, suc}
 use native.Mathlib.Omega.{arith}
 use lib.Dec.{lit<}
 use lib.IntN.{ℤ, pos, negsuc}
@@ -20,7 +20,7 @@ use Rattle.splitter.specs.Push.{tightOf, run, new}
 use Rattle.splitter.specs.Demand.{stampOf, tailAt, limit, stamped, allRows}
 use Rattle.splitter.specs.Alike.{Same}
 use Rattle.splitter.proofs.Instances.{eac3, pushes, given-eac3}
-use Rattle.cues.specs.Cue.{counts, placeIn, Answer, refused, found, cueOf}
+use Rattle.cues.specs.Cue.{counts, placeIn, refused, found, cueOf}
 use Rattle.cues.specs.Span.{Sounds, Rising}
 use Rattle.cues.proofs.Laws.{cue-joined}
 use Rattle.cues.proofs.Sounding.{Stamped, alike-timed, cue-finds, cue-none}

@@ -10,7 +10,7 @@ use native.Mathlib.Nat.{not-suc-le-zero, add-zero, add-suc}
 use lib.Dec.{T, ltb, leb, lt→ltb, nleb→lt}
 use lib.IntN.{ℤ, pos, negsuc}
 use lib.Signed.{leZ, ltZ, _≤ℤ_, _<ℤ_, leZ-yes, ltZ-yes, <ℤ-≤ℤ-trans, clashℤ}
-use lib.ListN.{length, take, drop}
+use lib.ListN.{length}
 use lib.Seq.{take-at, drop-at}
 use Rattle.heads.proofs.Promise.{need-least}
 use Rattle.heads.specs.Syntax.{headOf, needOf}

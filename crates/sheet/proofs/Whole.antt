@@ -8,7 +8,7 @@ use mathlib.Core.List.{List, [], _∷_, _++_, map, append-assoc}
 use Prim.Native.Nat.{ℕ, zero, suc, _+_, _*_, _/_, _≤_, _<_}
 use native.Mathlib.Omega.{arith}
 use native.Mathlib.Nat.{zero-add, add-zero, zero-mul, zero-div}
-use lib.Dec.{eqb, ltb, lit<, lit≤}
+use lib.Dec.{eqb, ltb, lit<}
 use lib.IntN.{ℤ, pos, +ℤ-idl}
 use lib.ListN.{length, take, drop, getD, replicate, length-append, length-replicate, length-take}
 use lib.Seq.{length-take-le, take-all, take-take, take-at, drop-at, getD-at}
@@ -23,8 +23,6 @@ use Rattle.heads.specs.Adts.{adtsHead, adtsJudged, adtsHeaderLength}
 use Rattle.heads.proofs.Promise.{need-least, need-most, length-most}
 use Rattle.heads.specs.Syntax.{headOf, needOf, syntaxOf}
 use Rattle.heads.specs.declared.info.AudioFrameInfo.{AudioFrameInfo}
-use Rattle.heads.specs.declared.info.AudioFrameKind.{AudioFrameKind}
-use Rattle.heads.specs.declared.info.BitRate.the-variants.{Absent as NoBitRate}
 use Rattle.heads.specs.declared.syntax.AudioSyntax.{AudioSyntax}
 use Rattle.heads.specs.declared.syntax.AudioSyntax.the-variants.{Ac3, MpegAudio, AacAdts}
 use Rattle.heads.specs.declared.syntax.CodedSyntax.the-variants.{Known}
@@ -41,7 +39,8 @@ use Rattle.splitter.specs.declared.timing.Pts.the-variants.{At, Absent}
 use Rattle.splitter.proofs.Account.{rows-size}
 use Rattle.splitter.proofs.Calls.{within-yes, owed-yes}
 use Rattle.splitter.proofs.Demand3.{demand3}
-use Rattle.splitter.proofs.Instances.{eac3, given-eac3, mpeg, given-mpeg, adts, given-adts}
+use Rattle.splitter.proofs.Instances.{eac3, given-eac3, mpeg, given-mpeg, adts, whole-adts, given-adts}
+use Rattle.splitter.proofs.Changes.{adtsSlow, whole-adtsSlow}
 use Rattle.splitter.proofs.Laws.{push-cases, rows-fit, push-rows-length, push-pend-length}
 use Rattle.splitter.proofs.Places.{Part, rest, begun-yes, rest-part, tail-rest}
 use Rattle.numbers.specs.Decimal.{decimal}
@@ -548,37 +547,14 @@ text-adts = refl
 
 -- ---- an instance that changes the rate twice
 
--- the same frame at 8000 Hz
-abbrev pub slow : List ℕ
-slow = 0xFF ∷ 0xF1 ∷ 0x6C ∷ 0x80 ∷ 0x00 ∷ 0xE0 ∷ 0x00 ∷ []
-
-whole-slow : Whole (needOf AacAdts) (headOf AacAdts) slow
-unfolding needOf headOf adtsHead adtsJudged adtsHeaderLength refuseIf number
-whole-slow =
-    record {
-      info = record {
-        kind = AudioFrameKind.AacAdts;
-        «frame_len» = 7;
-        «samples_per_frame» = 1024;
-        «sample_rate» = 8000;
-        channels = 2;
-        «bit_rate» = NoBitRate;
-      };
-      reads = refl;
-      exact = refl;
-      long = lit≤ tt;
-    }
-
+-- frames at 44100 Hz, and between them two at 8000 Hz
 abbrev pub changing : List (List ℕ)
-changing = adts ∷ adts ∷ slow ∷ slow ∷ adts ∷ []
+changing = adts ∷ adts ∷ adtsSlow ∷ adtsSlow ∷ adts ∷ []
 
 pub sheet-changing : sheetOf 2 (join changing) ≡ sheetLines (headOf AacAdts) changing ++ endLine 0 0
 sheet-changing =
     whole-sheet 2 AacAdts changing (given-adts .known)
-    (F, (F, (whole-slow, (whole-slow, (F, tt))))) (lit< tt)
-  where
-    F : Whole (needOf AacAdts) (headOf AacAdts) adts
-    F = given-adts .whole-frames .0
+    (whole-adts, (whole-adts, (whole-adtsSlow, (whole-adtsSlow, (whole-adts, tt))))) (lit< tt)
 
 -- The third is stamped by the first two's rate, and the fifth by the two before it: 4179 is floor(2 × 1024 × 90,000 /
 -- 44,100), and 27219 is 4179 + 2 × 11,520.

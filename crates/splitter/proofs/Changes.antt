@@ -29,24 +29,24 @@ use Rattle.splitter.proofs.Demand3.{demand3}
 use Rattle.splitter.proofs.Instances.{eac3, whole-eac3, mpeg, whole-mpeg, adts, whole-adts}
 
 -- a push that is lent o bytes of output and twelve rows, the front of its pending buffer holding these bytes
-abbrev handed : ℕ → List ℕ → List ℕ → Pts → Event
+abbrev pub handed : ℕ → List ℕ → List ℕ → Pts → Event
 handed o had p t = event p t (had ++ replicate pendingMost 4) (replicate o 0) (replicate 96 (pos 9))
 
 -- the frames f g f g f: f and a bytes of g, at 1000; the rest of g and b bytes of f, at 4000; all the rest, with no
 -- timestamp
-abbrev changing : List ℕ → List ℕ → ℕ → ℕ → List Event
+abbrev pub changing : List ℕ → List ℕ → ℕ → ℕ → List Event
 changing f g a b =
     handed (length f + a) [] (f ++ take a g) (At (pos 1000))
     ∷ handed (length g + b) (take a g) (drop a g ++ take b f) (At (pos 4000))
     ∷ handed (length f + length g + length f) (take b f) (drop b f ++ g ++ f) Absent
     ∷ []
 
-abbrev five : List ℕ → List ℕ → List (List ℕ)
+abbrev pub five : List ℕ → List ℕ → List (List ℕ)
 five f g = f ∷ g ∷ f ∷ g ∷ f ∷ []
 
 -- ---- E-AC-3: 1536 samples at 48000 Hz, and at 44100 Hz
 
-abbrev eac3Slow : List ℕ
+abbrev pub eac3Slow : List ℕ
 eac3Slow = 0x0B ∷ 0x77 ∷ 0x00 ∷ 0x03 ∷ 0x7F ∷ 0x80 ∷ 0x00 ∷ 0x00 ∷ []
 
 whole-eac3Slow : Whole (needOf Ac3) (headOf Ac3) eac3Slow
@@ -89,7 +89,7 @@ stamps-changing-eac3 = refl
 
 -- ---- MPEG audio: Layer III, 576 samples at 24000 Hz, and Layer I, 384 samples at 48000 Hz
 
-abbrev mpegOne : List ℕ
+abbrev pub mpegOne : List ℕ
 mpegOne = 0xFF ∷ 0xFF ∷ 0x14 ∷ 0x00 ∷ 0x00 ∷ 0x00 ∷ 0x00 ∷ 0x00 ∷ 0x00 ∷ 0x00 ∷ 0x00 ∷ 0x00 ∷ 0x00 ∷ 0x00 ∷ 0x00 ∷ 0x00 ∷ 0x00 ∷ 0x00 ∷ 0x00 ∷ 0x00 ∷ 0x00 ∷ 0x00 ∷ 0x00 ∷ 0x00 ∷ 0x00 ∷ 0x00 ∷ 0x00 ∷ 0x00 ∷ 0x00 ∷ 0x00 ∷ 0x00 ∷ 0x00 ∷ []
 
 whole-mpegOne : Whole (needOf MpegAudio) (headOf MpegAudio) mpegOne
@@ -132,10 +132,10 @@ stamps-changing-mpeg = refl
 
 -- ---- ADTS: 1024 samples at 44100 Hz, and at 8000 Hz
 
-abbrev adtsSlow : List ℕ
+abbrev pub adtsSlow : List ℕ
 adtsSlow = 0xFF ∷ 0xF1 ∷ 0x6C ∷ 0x80 ∷ 0x00 ∷ 0xE0 ∷ 0x00 ∷ []
 
-whole-adtsSlow : Whole (needOf AacAdts) (headOf AacAdts) adtsSlow
+pub whole-adtsSlow : Whole (needOf AacAdts) (headOf AacAdts) adtsSlow
 unfolding needOf headOf adtsHead adtsJudged adtsHeaderLength refuseIf number
 whole-adtsSlow =
     record {
@@ -177,10 +177,10 @@ stamps-changing-adts = refl
 
 -- The last timestamp that 10 lets pass. The second frame has another geometry and a stamp out of bounds: it keeps that
 -- stamp, and leaves no anchor. The third has no stamp, and the fourth a timestamp of its own.
-abbrev four : List (List ℕ)
+abbrev pub four : List (List ℕ)
 four = adts ∷ adtsSlow ∷ adts ∷ adts ∷ []
 
-abbrev leaving : List Event
+abbrev pub leaving : List Event
 leaving =
     handed 21 [] (adts ++ adtsSlow ++ adts) (At (pos timeMost))
     ∷ handed 7 [] adts (At (pos 7))
@@ -213,10 +213,10 @@ unfolding headOf adtsHead adtsJudged adtsHeaderLength refuseIf number far farPts
 third-unstamped = meets-leaving .absent-only 2 refl
 
 -- A frame of another geometry whose stamp is the bound itself becomes the anchor: it is still inside.
-abbrev three : List (List ℕ)
+abbrev pub three : List (List ℕ)
 three = adts ∷ adtsSlow ∷ adts ∷ []
 
-abbrev reaching : List Event
+abbrev pub reaching : List Event
 reaching = handed 21 [] (adts ++ adtsSlow ++ adts) (At (pos (timeMost - 2089))) ∷ []
 
 pub given-reaching : Given3 2 AacAdts three reaching

@@ -27,7 +27,7 @@ use Rattle.splitter.specs.declared.timing.Clock.{Clock}
 use Rattle.splitter.specs.declared.timing.Geometry.{Geometry}
 use Rattle.splitter.specs.declared.timing.Stamped.{Stamped}
 use Rattle.splitter.specs.declared.state.AudioFrameSplitter.{AudioFrameSplitter}
-use Rattle.splitter.proofs.Answers.{neither, past}
+use Rattle.splitter.proofs.Answers.{true-false, neither, past}
 
 -- a time that is not far
 pub near-of : (z : ℤ) → far z ≡ false → mag z ≤ timeMost
@@ -391,9 +391,10 @@ module _ (g : Geometry) where
   unfolding knows
   known-to a e = go (a .unread) (alike (geometrySince a) g) e
     where
-      go : (u s : Bool) → (not u && s) ≡ true → (u ≡ false) × (s ≡ true)
-      go true s e = absurd (let z : _≡_ {A = ℕ} 0 1 = cc in omega arith)
-      go false s e = (refl, e)
+      go : (u s : Bool) → (s && not u) ≡ true → (u ≡ false) × (s ≡ true)
+      go u false e = absurd (true-false (sym e))
+      go true true e = absurd (true-false (sym e))
+      go false true e = (refl, refl)
 
   known-learnt : (h : Anchored) → knows g h ≡ true → learnt g h ≡ h
   unfolding learnt

@@ -46,7 +46,7 @@ anchoredTo c a = record {
 -- a head with that geometry changes nothing: it is that of the frames since, or there is no anchor
 unfoldable pub knows : Geometry → Anchored → Bool
 knows g Free = true
-knows g (To a) = not (a .unread) && alike (geometrySince a) g
+knows g (To a) = alike (geometrySince a) g && not (a .unread)
 
 -- a head with that geometry is read
 unfoldable pub learntClock : Geometry → Clock → Clock

@@ -168,10 +168,10 @@ impl Anchored {
         let Anchored::To(a) = self else {
             return true;
         };
-        if a.unread {
-            return false;
+        if a.is_of(geometry) {
+            return !a.unread;
         }
-        a.is_of(geometry)
+        false
     }
 
     // A head with that geometry is read: an anchor that an unread tail made takes it for its own.

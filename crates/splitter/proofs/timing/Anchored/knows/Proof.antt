@@ -15,21 +15,22 @@ returns : tie.Need-returns
 unfolding knows
 returns c = sym (ap (knows (c .before .before .args .geometry)) (c .enum-told .given .1))
 
+is-of-requires : tie.Need-is-of-requires
+is-of-requires c κs = search needs
+
 returns-2 : tie.Need-returns-2
 unfolding knows
 returns-2 c =
-    let h = c .before .before .self .given in
-    sym (ap (knows (c .before .before .before .before .args .geometry)) (h .1) ∙ simp (c .if1 .taken))
-
-is-of-requires : tie.Need-is-of-requires
-is-of-requires c κs = search needs
+    let s = c .before .before .before .before .before .before in
+    let h = c .before .before .before .before .self .given in
+    sym (ap (knows (s .args .geometry)) (h .1) ∙ simp (sym (c .before .before .is-of .ensures) ∙ c .before .if1 .taken))
 
 returns-3 : tie.Need-returns-3
 unfolding knows
 returns-3 c =
+    let s = c .before .before .before .before .before in
     let h = c .before .before .before .self .given in
-    c .is-of .ensures
-    ∙ sym (ap (knows (c .before .before .before .before .before .args .geometry)) (h .1) ∙ simp (c .before .if1 .left))
+    sym (ap (knows (s .args .geometry)) (h .1) ∙ simp (sym (c .before .is-of .ensures) ∙ c .if1 .left))
 
 pub knows-spec : {M : Type 1} → statement M
-knows-spec = tie.close (tie.spec enum-known-self enum-told returns returns-2 is-of-requires returns-3)
+knows-spec = tie.close (tie.spec enum-known-self enum-told returns is-of-requires returns-2 returns-3)

@@ -1,6 +1,5 @@
 -- What began in pending bytes keeps its stamp, and its head is heard of; else the stamp that it gets becomes the pending
 -- one.
-use mathlib.Core.Path.{_∙_}
 use Rattle.splitter.proofs.Clocks.{keep-new, keep-early}
 use borrow.Author.Needs.{needs}
 use Rattle.splitter.proofs.timing.Clock.keep.Statement.{statement}
