@@ -136,24 +136,21 @@ module _ (x : AudioSyntax) (p : ℕ) (pend pay : List ℕ) (hp : p ≤ length pe
   bytes : Bytes (take p pend ++ pay)
   bytes = bytes-join (take p pend) pay (bytes-take p pend first) second
 
-  -- the bytes after the place that are searched are pending bytes, or those of the payload
-  pub unread-low : (e : ℕ) → at + 1 < p → e ≡ min p (p + length pay - need + 2)
-      → r ≡ syncPlace x (take (e - (at + 1)) (drop (at + 1) pend))
-      → UnreadRun x (take p pend ++ pay) at (1 + r)
-  unread-low e l w q =
+  -- the m bytes after the place that are searched are pending bytes, or those of the payload
+  pub unread-low : (m : ℕ) → at + 1 + m ≤ p → at + m + need ≤ p + length pay + 1
+      → r ≡ syncPlace x (take m (drop (at + 1) pend)) → UnreadRun x (take p pend ++ pay) at (1 + r)
+  unread-low m l w q =
       let j : length (take p pend ++ pay) ≡ p + length pay = joined-length p pend pay hp in
-      unread-from x (take p pend ++ pay) at (e - (at + 1)) r bytes
-      (q ∙ ap (syncPlace x) (sym (slice-low p pend pay hp (at + 1) (e - (at + 1)) (omega (arith, need-least x)))))
-      (omega (arith, need-least x))
+      unread-from x (take p pend ++ pay) at m r bytes
+      (q ∙ ap (syncPlace x) (sym (slice-low p pend pay hp (at + 1) m l)))
+      (omega arith)
       (omega arith)
 
-  pub unread-high : p ≤ at + 1
-      → r ≡ syncPlace x (take (p + length pay - need + 2 - p - (at + 1 - p)) (drop (at + 1 - p) pay))
-      → UnreadRun x (take p pend ++ pay) at (1 + r)
-  unread-high l q =
+  pub unread-high : (m : ℕ) → p ≤ at + 1 → at + m + need ≤ p + length pay + 1
+      → r ≡ syncPlace x (take m (drop (at + 1 - p) pay)) → UnreadRun x (take p pend ++ pay) at (1 + r)
+  unread-high m l w q =
       let j : length (take p pend ++ pay) ≡ p + length pay = joined-length p pend pay hp in
-      let m = p + length pay - need + 2 - p - (at + 1 - p) in
       unread-from x (take p pend ++ pay) at m r bytes
       (q ∙ ap (syncPlace x) (sym (slice-high p pend pay hp (at + 1) m l)))
-      (omega (arith, need-least x))
+      (omega arith)
       (omega arith)

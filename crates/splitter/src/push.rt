@@ -230,8 +230,10 @@ impl AudioFrameSplitter {
             clock = after.afresh();
             walk = walk.give(n);
         };
+        // Before the tail is copied: what the last head says is at hand still, and need not be carried past the copy.
+        let pushed = self.settle(walk, clock, last, total);
         keep_tail(pending, carried, payload, walk.place);
-        self.settle(walk, clock, last, total)
+        pushed
     }
 
     // The refusals in their order, and whether an unlocked splitter takes the payload.

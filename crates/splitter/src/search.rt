@@ -107,12 +107,13 @@ pub fn unread_run(
     ensures { λ r. ⌜ UnreadRun syntax (take carried (now (pending .entry)) ++ now (payload .entry)) at r ⌝ }
 {
     let from = at + 1;
-    let end = carried + payload.len() - need + 2;
+    // A count from the place on. Where they end is the same for all places of a push, and the compiler would work it out
+    // in each push, before it is known whether anybody asks.
+    let n = carried + payload.len() - at - need + 1;
     if from < carried {
-        let e = least(carried, end);
-        return 1 + syntax.skip_to_sync(&pending[from..e]);
+        let k = least(carried - from, n);
+        return 1 + syntax.skip_to_sync(&pending[from..from + k]);
     }
     let a = from - carried;
-    let e = end - carried;
-    1 + syntax.skip_to_sync(&payload[a..e])
+    1 + syntax.skip_to_sync(&payload[a..a + n])
 }

@@ -168,10 +168,8 @@ impl Anchored {
         let Anchored::To(a) = self else {
             return true;
         };
-        if a.is_of(geometry) {
-            return !a.unread;
-        }
-        false
+        // Both are asked: a head that changes something is rare, and with a test for each the compiler takes it for likely.
+        a.is_of(geometry) & !a.unread
     }
 
     // A head with that geometry is read: an anchor that an unread tail made takes it for its own.

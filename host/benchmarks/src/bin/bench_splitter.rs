@@ -3,10 +3,11 @@
 //!
 //! The program reads a line `CODE SIZE ROUNDS` and then the stream up to the end of its input. ROUNDS
 //! times it makes a new splitter, locked, and pushes the whole stream in payloads of SIZE bytes, the
-//! last one shorter; the first has timestamp 0, the others none. It prints one line of six numbers:
-//! frames, output bytes and bytes discarded of all rounds, bytes pending at the end, and, of all
-//! rounds modulo 2^64, the sum of all stamps and the sum of the frames' last bytes, so that the
-//! copies are read.
+//! last one shorter; the first has the number of the round as its timestamp, from 0 on, the others
+//! none. It prints one line of six numbers: frames, output bytes and bytes discarded of all rounds,
+//! bytes pending at the end, and, of all rounds modulo 2^64, the sum of all stamps and the sum of the
+//! frames' last bytes, so that the copies are read. (With a constant timestamp a compiler works a part
+//! of the stamps out beforehand, and leaves tests out that a caller's program has.)
 //!
 //! What is measured is the unchanged Rust module. Of one byte a payload its stamps are others than
 //! those that request K7 asks for, since there a tail has the timestamp: a program's sums must be the
@@ -118,7 +119,8 @@ fn table(programs: &[Program], only: &str) -> Result<(), Box<dyn Error>> {
 
 /// The line's numbers, as text.
 fn measured(programs: &[Program], row: &Row) -> Result<String, Box<dyn Error>> {
-    let expected = [push_all, push_all_as_requested].map(|all| all(row.code, row.bytes, row.size));
+    let expected =
+        [push_all, push_all_as_requested].map(|all| all(row.code, row.bytes, row.size, 0));
     let more: Result<Vec<u64>, _> = programs.iter().map(|p| rounds(p, row, expected)).collect();
     let more = more?;
     let mut rates = vec![Vec::new(); programs.len()];
@@ -158,7 +160,7 @@ impl Program {
     }
 }
 
-/// Runs the program once. What it prints must be a module's sums of one round, so many times.
+/// Runs the program once. What it prints must be a module's sums of so many rounds.
 fn run(
     program: &Program,
     row: &Row,
@@ -175,7 +177,7 @@ fn run(
     drop(input);
     let output = child.wait_with_output()?;
     let time = start.elapsed();
-    let expected = expected.map(|sums| sums.times(rounds).line());
+    let expected = expected.map(|first| first.of_rounds(rounds).line());
     let right = !program.as_rust || expected.iter().any(|e| output.stdout == e.as_bytes());
     if output.status.success() && right {
         return Ok(time);
@@ -188,14 +190,16 @@ fn run(
 }
 
 impl Sums {
-    /// Of so many equal rounds.
-    fn times(self, rounds: u64) -> Sums {
+    /// Of so many rounds, the first of which has these: a round's stamps, which all frames have, are
+    /// later by its number.
+    fn of_rounds(self, rounds: u64) -> Sums {
+        let numbers = rounds * (rounds - 1) / 2;
         Sums {
             frames: self.frames * rounds,
             bytes: self.bytes * rounds,
             discarded: self.discarded * rounds,
             pending: self.pending,
-            stamps: self.stamps.wrapping_mul(rounds),
+            stamps: self.stamps.wrapping_mul(rounds).wrapping_add(self.frames * numbers),
             last_bytes: self.last_bytes.wrapping_mul(rounds),
         }
     }
@@ -209,7 +213,7 @@ impl Sums {
 /// One round of a module's splitter, as a function of that name.
 macro_rules! one_round {
     ($name:ident, $answers:path, $module:path) => {
-        fn $name(code: u32, stream: &[u8], size: usize) -> Sums {
+        fn $name(code: u32, stream: &[u8], size: usize, start: i64) -> Sums {
             use $answers as answers;
             use $module as module;
             let mut splitter = module::AudioFrameSplitter::from_parts(module::Parts {
@@ -221,7 +225,7 @@ macro_rules! one_round {
                 locked: true,
             });
             let mut sums = Sums::default();
-            let mut pts = Some(0);
+            let mut pts = Some(start);
             for payload in stream.chunks(size) {
                 for frame in splitter.push(payload, pts.take()) {
                     sums.frames += 1;
@@ -249,8 +253,8 @@ fn be_the_program() -> Result<(), Box<dyn Error>> {
     let numbers: Result<Vec<u64>, _> = line.split_whitespace().map(str::parse).collect();
     let [code, size, rounds] = numbers?.try_into().map_err(|_| "not three numbers")?;
     let mut sums = Sums::default();
-    for _ in 0..rounds {
-        let round = push_all(code as u32, black_box(&stream), size as usize);
+    for number in 0..rounds {
+        let round = push_all(code as u32, black_box(&stream), size as usize, number as i64);
         sums.frames += round.frames;
         sums.bytes += round.bytes;
         sums.discarded += round.discarded;

@@ -8,17 +8,20 @@ use Rattle.bench.proofs.measure.measure.Statement.{statement}
 use Rattle.bench.proofs.measure.measure.Tie as tie
 
 abbrev Inv-loop : tie.InvT-loop
-Inv-loop stream first size rounds pending₀ out₀ rows₀ totals₀ counter₀ pending out rows totals counter =
+Inv-loop stream first size rounds pending₀ out₀ rows₀ totals₀ number₀ pending out rows totals number =
     (length pending ≡ 8704) × (length out ≡ 73800) × (length rows ≡ rowWidth * 10535)
 
 abbrev μ-loop : tie.MeasureT-loop
-μ-loop stream first size rounds pending₀ out₀ rows₀ totals₀ counter₀ pending out rows totals counter = rounds - counter
+μ-loop stream first size rounds pending₀ out₀ rows₀ totals₀ number₀ pending out rows totals number = rounds - number
 
 new-requires : tie.Need-new-requires Inv-loop μ-loop
 new-requires c κs = search needs
 
 loop-holds : tie.Need-loop-holds Inv-loop μ-loop
 loop-holds c = search needs
+
+cast-time : tie.Need-cast-time Inv-loop μ-loop
+cast-time c = search needs
 
 slice-aggregate-round : tie.Need-slice-aggregate-round Inv-loop μ-loop
 slice-aggregate-round c = search needs
@@ -32,8 +35,8 @@ slice-aggregate-round-3 c = search needs
 round-requires : tie.Need-round-requires Inv-loop μ-loop
 round-requires c κs = search needs
 
-add-counter : tie.Need-add-counter Inv-loop μ-loop
-add-counter c = search needs
+add-number : tie.Need-add-number Inv-loop μ-loop
+add-number c = search needs
 
 loop-less : tie.Need-loop-less Inv-loop μ-loop
 loop-less c = search needs
@@ -52,11 +55,12 @@ measure-spec =
     μ-loop
     new-requires
     loop-holds
+    cast-time
     slice-aggregate-round
     slice-aggregate-round-2
     slice-aggregate-round-3
     round-requires
-    add-counter
+    add-number
     loop-less
     loop-again
     returns)

@@ -7,11 +7,11 @@ use Rattle.bench.proofs.measure.round.Statement.{statement}
 use Rattle.bench.proofs.measure.round.Tie as tie
 
 abbrev Inv-loop : tie.InvT-loop
-Inv-loop stream size pending₀ out₀ rows₀ sums₀ splitter₀ at₀ pending out rows sums splitter at =
+Inv-loop stream size pending₀ out₀ rows₀ sums₀ splitter₀ pts₀ at₀ pending out rows sums splitter pts at =
     (length pending ≡ length pending₀) × (length out ≡ length out₀) × (length rows ≡ length rows₀)
 
 abbrev μ-loop : tie.MeasureT-loop
-μ-loop stream size pending₀ out₀ rows₀ sums₀ splitter₀ at₀ pending out rows sums splitter at = length stream - at
+μ-loop stream size pending₀ out₀ rows₀ sums₀ splitter₀ pts₀ at₀ pending out rows sums splitter pts at = length stream - at
 
 loop-holds : tie.Need-loop-holds Inv-loop μ-loop
 loop-holds c = search needs
@@ -27,9 +27,6 @@ part-push-start c = search needs
 
 part-push-end : tie.Need-part-push-end Inv-loop μ-loop
 part-push-end c = search needs
-
-pts-at-requires : tie.Need-pts-at-requires Inv-loop μ-loop
-pts-at-requires c κs = search needs
 
 push-requires : tie.Need-push-requires Inv-loop μ-loop
 push-requires c κs = search needs
@@ -69,7 +66,6 @@ round-spec =
     sub-push
     part-push-start
     part-push-end
-    pts-at-requires
     push-requires
     with-push-requires
     loop-less

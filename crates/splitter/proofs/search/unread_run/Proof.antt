@@ -29,17 +29,26 @@ high c = c .before .before .before
 add-from : tie.Need-add-from
 add-from c = search needs
 
-add-end : tie.Need-add-end
-add-end c = search needs
+add-n : tie.Need-add-n
+add-n c = search needs
 
-sub-end : tie.Need-sub-end
-sub-end c = search needs
+sub-n : tie.Need-sub-n
+sub-n c = search needs
 
-add-end-2 : tie.Need-add-end-2
-add-end-2 c = omega (arith, need-least (start c .args .syntax))
+sub-n-2 : tie.Need-sub-n-2
+sub-n-2 c = search needs
+
+add-n-2 : tie.Need-add-n-2
+add-n-2 c = omega (arith, need-least (start c .args .syntax))
+
+sub-least : tie.Need-sub-least
+sub-least c = search needs
 
 least-requires : tie.Need-least-requires
 least-requires c κs = search needs
+
+add-skip-to-sync : tie.Need-add-skip-to-sync
+add-skip-to-sync c = search needs
 
 sub-skip-to-sync : tie.Need-sub-skip-to-sync
 sub-skip-to-sync c = search needs
@@ -59,7 +68,7 @@ add-result c =
     let s = start (low m) .args in
     omega (
       arith,
-      place-within (s .syntax) (m .least .result - (s .at + 1)) (s .at + 1) (c .skip-to-sync .result)
+      place-within (s .syntax) (s .at + 1 + m .least .result - (s .at + 1)) (s .at + 1) (c .skip-to-sync .result)
           (now (s .pending)) (c .skip-to-sync .ensures),
     )
 
@@ -68,14 +77,16 @@ returns c =
     let m = measured c in
     let b = low m in
     let s = start b in
+    let k = m .least .result in
     unread-low (s .args .syntax) (s .args .carried) (now (s .args .pending)) (now (s .args .payload)) (s .pre .0)
     (s .args .at) (s .args .need) (c .skip-to-sync .result) (s .pre .1) (s .pre .2)
     (known (now (s .args .pending)) (b .before .shared-slice-known .given))
     (known (now (s .args .payload)) (b .shared-slice-known2 .given))
-    (m .least .result) (omega arith) (m .least .ensures) (c .skip-to-sync .ensures)
+    (s .args .at + 1 + k - (s .args .at + 1)) (omega (arith, m .least .ensures)) (omega (arith, m .least .ensures))
+    (c .skip-to-sync .ensures)
 
-sub-e : tie.Need-sub-e
-sub-e c = search needs
+add-skip-to-sync-2 : tie.Need-add-skip-to-sync-2
+add-skip-to-sync-2 c = search needs
 
 sub-skip-to-sync-2 : tie.Need-sub-skip-to-sync-2
 sub-skip-to-sync-2 c = search needs
@@ -93,38 +104,43 @@ add-result-2 : tie.Need-add-result-2
 add-result-2 c =
     let s = start (high c) .args in
     let a = s .at + 1 - s .carried in
-    let m = s .carried + length (now (s .payload)) - s .need + 2 - s .carried - a in
+    let n = s .carried + length (now (s .payload)) - s .at - s .need + 1 in
     omega (
       arith,
-      place-within (s .syntax) m a (c .skip-to-sync2 .result) (now (s .payload)) (c .skip-to-sync2 .ensures),
+      place-within (s .syntax) (a + n - a) a (c .skip-to-sync2 .result) (now (s .payload)) (c .skip-to-sync2 .ensures),
     )
 
 returns-2 : tie.Need-returns-2
 returns-2 c =
     let b = high c in
     let s = start b in
+    let a = s .args .at + 1 - s .args .carried in
+    let n = s .args .carried + length (now (s .args .payload)) - s .args .at - s .args .need + 1 in
     unread-high (s .args .syntax) (s .args .carried) (now (s .args .pending)) (now (s .args .payload)) (s .pre .0)
     (s .args .at) (s .args .need) (c .skip-to-sync2 .result) (s .pre .1) (s .pre .2)
     (known (now (s .args .pending)) (b .before .shared-slice-known .given))
     (known (now (s .args .payload)) (b .shared-slice-known2 .given))
-    (omega arith) (c .skip-to-sync2 .ensures)
+    (a + n - a) (omega arith) (omega arith) (c .skip-to-sync2 .ensures)
 
 pub unread-run-spec : {M : Type 1} → statement M
 unread-run-spec =
     tie.close
     (tie.spec
     add-from
-    add-end
-    sub-end
-    add-end-2
+    add-n
+    sub-n
+    sub-n-2
+    add-n-2
+    sub-least
     least-requires
+    add-skip-to-sync
     sub-skip-to-sync
     part-skip-to-sync-start
     part-skip-to-sync-end
     skip-to-sync-requires
     add-result
     returns
-    sub-e
+    add-skip-to-sync-2
     sub-skip-to-sync-2
     part-skip-to-sync-start-2
     part-skip-to-sync-end-2

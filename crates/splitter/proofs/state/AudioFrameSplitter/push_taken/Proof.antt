@@ -69,9 +69,12 @@ next c = stamping (stamped (copied c .before) .before)
 abbrev written : tie.After-afresh Inv-loop μ-loop → tie.After-write-row Inv-loop μ-loop
 written c = c .before .before .before
 
--- the rest is kept
+-- the state is settled, and the rest is kept
+abbrev settled : tie.After-keep-tail-arg Inv-loop μ-loop → tie.After-settle Inv-loop μ-loop
+settled c = c .before
+
 abbrev ending : tie.After-keep-tail-arg Inv-loop μ-loop → tie.At-match-keys2 Inv-loop μ-loop
-ending c = c .before
+ending c = settled c .before
 
 abbrev kept : tie.After-slice-known4 Inv-loop μ-loop → tie.After-keep-tail Inv-loop μ-loop
 kept c = c .before .before
@@ -246,6 +249,11 @@ loop-again c =
     (going-given (going (found d)) (info d) (framed d) (k .copy-frame .ensures)
     (w .write-row .ensures ∙ ap (λ (x : Stamped). over (rowBy (info d) (x .pts)) free) g))
 
+settle-requires : tie.Need-settle-requires Inv-loop μ-loop
+settle-requires c κs =
+    let a = stopped c in
+    settleable (going a) (a .search .ensures .met) (sym (whole (from a))) (ok (from a) .discarded-few)
+
 keep-tail-requires : tie.Need-keep-tail-requires Inv-loop μ-loop
 keep-tail-requires c κs =
     let a = stopped (ending c) in
@@ -255,30 +263,24 @@ keep-tail-requires c κs =
       omega (arith, over-all (ending c) .left-few, whole s, ok s),
     )
 
-settle-requires : tie.Need-settle-requires Inv-loop μ-loop
-settle-requires c κs =
-    let d = ending (kept c .before) in
-    let a = stopped d in
-    settleable (going a) (a .search .ensures .met) (sym (whole (from a))) (ok (from a) .discarded-few)
-
 same-length : tie.Need-same-length Inv-loop μ-loop
 same-length c = search needs
 
 same-length-2 : tie.Need-same-length-2 Inv-loop μ-loop
-same-length-2 c = going (stopped (ending (kept (c .before) .before))) .outs .same
+same-length-2 c = going (stopped (ending (kept c .before))) .outs .same
 
 same-length-3 : tie.Need-same-length-3 Inv-loop μ-loop
-same-length-3 c = going (stopped (ending (kept (c .before) .before))) .lines .same
+same-length-3 c = going (stopped (ending (kept c .before))) .lines .same
 
 returns : tie.Need-returns Inv-loop μ-loop
 returns c =
-    let k = kept (c .before) in
+    let k = kept c in
     let d = ending (k .before) in
     let a = stopped d in
     let s = from a in
     handed-back (s .args .self) (now (s .args .payload)) (s .args .pts) (now (s .args .pending))
     (made (at a) .new .ensures) (going a) (a .search .result .next) (over-all d) (sym (whole s))
-    (c .settle .ensures) (k .keep-tail .ensures)
+    (settled (k .before) .settle .ensures) (k .keep-tail .ensures)
 
 pub push-taken-spec : {M : Type 1} → statement M
 push-taken-spec =
@@ -308,8 +310,8 @@ push-taken-spec =
     give-requires-2
     loop-less
     loop-again
-    keep-tail-requires
     settle-requires
+    keep-tail-requires
     same-length
     same-length-2
     same-length-3

@@ -1,5 +1,5 @@
 -- By the cases of the definition.
-use mathlib.Core.Path.{sym, _∙_, ap}
+use mathlib.Core.Path.{sym, ap}
 use Rattle.splitter.specs.Clocks.{knows}
 use borrow.Author.Needs.{needs}
 use Rattle.splitter.proofs.timing.Anchored.knows.Statement.{statement}
@@ -21,16 +21,8 @@ is-of-requires c κs = search needs
 returns-2 : tie.Need-returns-2
 unfolding knows
 returns-2 c =
-    let s = c .before .before .before .before .before .before in
-    let h = c .before .before .before .before .self .given in
-    sym (ap (knows (s .args .geometry)) (h .1) ∙ simp (sym (c .before .before .is-of .ensures) ∙ c .before .if1 .taken))
-
-returns-3 : tie.Need-returns-3
-unfolding knows
-returns-3 c =
     let s = c .before .before .before .before .before in
-    let h = c .before .before .before .self .given in
-    sym (ap (knows (s .args .geometry)) (h .1) ∙ simp (sym (c .before .is-of .ensures) ∙ c .if1 .left))
+    rw (c .before .is-of .ensures) (sym (ap (knows (s .args .geometry)) (c .before .before .before .self .given .1)))
 
 pub knows-spec : {M : Type 1} → statement M
-knows-spec = tie.close (tie.spec enum-known-self enum-told returns is-of-requires returns-2 returns-3)
+knows-spec = tie.close (tie.spec enum-known-self enum-told returns is-of-requires returns-2)
