@@ -132,10 +132,11 @@ fn search(
             clock = clock.voided(true);
             continue;
         };
+        // Asked first, as it is so in most pushes of short payloads. The need is left, so such a frame is not below it.
+        if total - place < info.frame_len {
+            break Next::Partial(info);
+        }
         if info.frame_len >= need {
-            if total - place < info.frame_len {
-                break Next::Partial(info);
-            }
             let end = place + info.frame_len;
             if !false_sync(syntax, need, pending, carried, payload, end) {
                 break Next::Frame(info);

@@ -52,21 +52,28 @@ enough c = omega (arith, whole (start (c .before)))
 
 -- ---- a head that reads
 
-abbrev at : tie.After-struct-known Inv-loop μ-loop → tie.At-loop Inv-loop μ-loop
-at c = c .before .before .before .before .before .before
+abbrev at : tie.After-known-told Inv-loop μ-loop → tie.At-loop Inv-loop μ-loop
+at c = c .before .before .before .before .before
 
-abbrev info : tie.After-struct-known Inv-loop μ-loop → AudioFrameInfo
-info c = c .before .before .info .given .0 .0
+abbrev info : tie.After-known-told Inv-loop μ-loop → AudioFrameInfo
+info c = c .before .info .given .0 .0
 
-reads : (c : tie.After-struct-known Inv-loop μ-loop)
+reads : (c : tie.After-known-told Inv-loop μ-loop)
     → headOf (start (at c) .args .syntax) (drop (at c .loop .walk .place) (J (start (at c)))) ≡ Read (info c)
-reads c = sym (c .before .before .before .before .head-at .ensures) ∙ c .before .before .info .given .1
+reads c = sym (c .before .before .before .head-at .ensures) ∙ c .before .info .given .1
+
+-- the header need is left there
+some : (c : tie.After-known-told Inv-loop μ-loop)
+    → at c .loop .walk .place + needOf (start (at c) .args .syntax) ≤ length (J (start (at c)))
+some c = enough (c .before .before .before .before)
 
 -- the frame is whole
-inside : (c : tie.Else3 Inv-loop μ-loop)
-    → at (c .before .before .before) .loop .walk .place + info (c .before .before .before) .«frame_len» ≤ length
-    (J (start (at (c .before .before .before))))
-inside c = omega (arith, whole (start (at (c .before .before .before))))
+abbrev told : tie.Else2 Inv-loop μ-loop → tie.After-known-told Inv-loop μ-loop
+told c = c .before .before
+
+inside : (c : tie.Else2 Inv-loop μ-loop)
+    → at (told c) .loop .walk .place + info (told c) .«frame_len» ≤ length (J (start (at (told c))))
+inside c = omega (arith, at (told c) .loop .inv .reached, whole (start (at (told c))))
 
 -- ---- the needs
 
@@ -114,79 +121,69 @@ loop-again c =
     (sym (c .before .before .before .before .before .head-at .ensures)
     ∙ c .before .before .before .enum-told .given .1) (c .before .before .unread-run .ensures))
 
-sub-if3 : tie.Need-sub-if3 Inv-loop μ-loop
-sub-if3 c = omega (arith, whole (start (at (c .before))))
+sub-if2 : tie.Need-sub-if2 Inv-loop μ-loop
+sub-if2 c = omega (arith, whole (start (at c)))
 
 add-end : tie.Need-add-end Inv-loop μ-loop
-add-end c = omega (arith, inside (c .before), whole (start (at (c .before .before .before .before))))
+add-end c = omega (arith, inside (c .before .before .before), whole (start (at (told (c .before .before .before)))))
 
 false-sync-requires : tie.Need-false-sync-requires Inv-loop μ-loop
 false-sync-requires c κs =
-    let s = start (at (c .before .before .before .before)) in
-    (s .pre .pending-all, s .pre .need-is, omega (arith, inside (c .before), whole s))
+    let e = c .before .before .before in
+    let s = start (at (told e)) in
+    (s .pre .pending-all, s .pre .need-is, omega (arith, inside e, whole s))
 
 voided-requires-2 : tie.Need-voided-requires-2 Inv-loop μ-loop
 voided-requires-2 c κs = search needs
 
 lose-requires-2 : tie.Need-lose-requires-2 Inv-loop μ-loop
 lose-requires-2 c κs =
-    let d = c .before in
-    few-lost (at d) 1 (omega (
-      arith,
-      enough (d .before .before .before .before .before),
-      need-least (start (at d) .args .syntax),
-    ))
+    let d = told (c .before .before) in
+    few-lost (at d) 1 (omega (arith, some d, need-least (start (at d) .args .syntax)))
 
 loop-less-2 : tie.Need-loop-less-2 Inv-loop μ-loop
 unfolding lostWalk
 loop-less-2 c =
-    let s = start (at (c .before .before)) in
-    omega (arith, ap (λ (w : Walk). w .place) (c .lose2 .ensures), need-least (s .args .syntax), whole s)
+    let d = told (c .before .before .before) in
+    let s = start (at d) in
+    omega (arith, some d, ap (λ (w : Walk). w .place) (c .lose2 .ensures), need-least (s .args .syntax), whole s)
 
 loop-again-2 : tie.Need-loop-again-2 Inv-loop μ-loop
 loop-again-2 c =
-    let d = c .before .before in
+    let e = c .before .before .before in
+    let d = told e in
     let s = start (at d) in
     rw (c .lose2 .ensures)
     (⊎-elim
-    (λ w. rw (w .7 ∙ w .6 .ensures)
-    (slid-false (at d .loop .inv) (reads d) (enough (d .before .before .before .before .before))
-    (omega (arith, w .0 .taken, s .pre .need-is)) (omega (
-      arith,
-      w .2 .left,
-      at d .loop .inv .reached,
-      whole s,
-    )) (sym (w .4 .ensures) ∙ not-false (w .4 .result) (w .5 .left))))
-    (λ w. rw (w .1) (slid-below (at d .loop .inv) (reads d) (enough (d .before .before .before .before .before))
-    (omega (arith, s .pre .need-is))))
-    (c .before .if2 .came))
+    (λ w. rw (w .5 ∙ w .4 .ensures)
+    (slid-false (at d .loop .inv) (reads d) (some d)
+    (omega (arith, w .0 .taken, s .pre .need-is)) (inside e) (sym (w .2 .ensures) ∙ not-false (w .2 .result) (w .3 .left))))
+    (λ w. rw (w .1) (slid-below (at d .loop .inv) (reads d) (some d) (omega (arith, s .pre .need-is))))
+    (c .before .if3 .came))
 
 returns : tie.Need-returns Inv-loop μ-loop
 returns c = record { slid = c .before .loop .inv; met = omega (arith, whole (start (c .before))) }
 
 returns-2 : tie.Need-returns-2 Inv-loop μ-loop
 returns-2 c =
-    let d = c .before .before .before in
+    let d = c .before .before in
+    let w = whole (start (at d)) in
     record {
       slid = at d .loop .inv;
-      met = (
-        reads d,
-        enough (d .before .before .before .before .before),
-        omega arith,
-        omega (arith, whole (start (at d))),
-      );
+      met = (reads d, some d, omega (arith, some d, w), omega (arith, w));
     }
 
 returns-3 : tie.Need-returns-3 Inv-loop μ-loop
 returns-3 c =
-    let d = c .before .before .before .before .before .before in
+    let e = c .before .before .before .before .before in
+    let d = told e in
     let f = c .before .false-sync in
     record {
       slid = at d .loop .inv;
       met = (
         reads d,
-        omega (arith, c .before .before .before .before .before .if2 .taken, start (at d) .pre .need-is),
-        inside (c .before .before .before),
+        omega (arith, c .before .before .before .if3 .taken, start (at d) .pre .need-is),
+        inside e,
         sym (f .ensures) ∙ not-true (f .result) (c .if4 .taken),
       );
     }
@@ -208,7 +205,7 @@ search-spec =
     voided-requires
     loop-less
     loop-again
-    sub-if3
+    sub-if2
     add-end
     false-sync-requires
     voided-requires-2
