@@ -84,7 +84,7 @@ fn locked(mut splitter: AudioFrameSplitter) -> AudioFrameSplitter {
 }
 
 // Each round begins with the splitter as it is given, and its number is its timestamp: with a constant the compiler
-// works a part of the stamps out beforehand, and tests of times that each caller's program has are left out.
+// may leave out tests of times that the program of a caller with timestamps of its own has.
 fn measure(stream: &[u8], first: AudioFrameSplitter, size: usize, rounds: u64) -> Totals
     requires { ⌜ 0 < size ⌝ }
 {

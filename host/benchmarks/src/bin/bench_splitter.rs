@@ -6,8 +6,8 @@
 //! last one shorter; the first has the number of the round as its timestamp, from 0 on, the others
 //! none. It prints one line of six numbers: frames, output bytes and bytes discarded of all rounds,
 //! bytes pending at the end, and, of all rounds modulo 2^64, the sum of all stamps and the sum of the
-//! frames' last bytes, so that the copies are read. (With a constant timestamp a compiler works a part
-//! of the stamps out beforehand, and leaves tests out that a caller's program has.)
+//! frames' last bytes, so that the copies are read. (With a constant timestamp a compiler may leave
+//! out tests of times that the program of a caller with timestamps of its own has.)
 //!
 //! What is measured is the unchanged Rust module. Of one byte a payload its stamps are others than
 //! those that request K7 asks for, since there a tail has the timestamp: a program's sums must be the
