@@ -19,13 +19,13 @@ use Rattle.splitter.proofs.Refusing.{push-refused}
 use Rattle.sheet.specs.Layout.{lowDigits, line}
 use Rattle.sheet.specs.Pushes.{rowsSaid, pushOn, pushesFrom, pushesOf, linesFrom, lastState}
 use Rattle.sheet.specs.Run.{Roomy}
-use Rattle.sheet.specs.Sheet.{Standing, pendSize, outSize, rowsSize, payloadsOf, timeOf, linesOf, pushed, moved, endOf, opened, sheetOf}
+use Rattle.sheet.specs.Sheet.{Standing, pendSize, outSize, rowsSize, payloadsOf, AllPayloads, timeOf, linesOf, pushed, moved, endOf, opened, sheetOf}
 use Rattle.sheet.specs.Step.{Lent, lent, Step, newSheet, sheetAfter, stepBy, pushOf, textSize}
 use Rattle.sheet.specs.declared.sheet.CutSheet.{CutSheet}
 use Rattle.sheet.proofs.Columns.{line-low}
 use Rattle.sheet.proofs.Lines.{lines-front, lines-split}
 use Rattle.sheet.proofs.Stopping.{sheet-pushes}
-use Rattle.sheet.proofs.Sheets.{Same, push-same, AllPayloads, payloads-small, standing, step-open}
+use Rattle.sheet.proofs.Sheets.{Same, push-same, payloads-small, standing, step-open}
 use Rattle.cues.specs.Cue.{rowCount, placeIn}
 use Rattle.cues.specs.Places.{Whole, rowAt, Right, joinedPlace}
 use Rattle.cues.proofs.Laws.{place-right, place-joined}

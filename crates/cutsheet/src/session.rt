@@ -1,7 +1,6 @@
 // A run over standard input: its first line, then the stream, payload by payload.
 use crate::buffers::BLOCK_LEN;
 use crate::buffers::TEXT_LEN;
-use crate::output::print;
 use crate::output::report_read;
 use crate::output::report_write;
 use crate::output::with_room;
@@ -20,61 +19,109 @@ use text::Filled;
 use text::Output;
 use text::fill;
 ghost use mathlib.Core.Path.{_≡_};
+ghost use mathlib.Core.Bool.{true};
+ghost use mathlib.Core.List.{[], _∷_};
 ghost use Prim.Native.Nat.{_+_, _-_, _≤_};
 ghost use lib.ListN.{length};
 ghost use Rattle.sheet.specs.Run.{Roomy};
 ghost use Rattle.sheet.specs.Sheet.{pendSize, payloadsOf, endOf};
-ghost use Rattle.sheet.specs.Step.{put, lent, endMost};
+ghost use Rattle.sheet.specs.Step.{put, lent, endMost, newSheetOf};
 ghost use Rattle.cutsheet.specs.Bounds.{Bounded, Payload, Within};
-ghost use Rattle.cutsheet.specs.Glue.{CutFrom, PayloadCut, PayloadsCut, StateCut, NextCut, EndPut, newSession, closedAt, usableOf, afterRead};
+ghost use Rattle.cutsheet.specs.Step.{CutFrom};
+ghost use Rattle.cutsheet.specs.Run.{newSession, withOutput, refusing, isOpen, Cut, usable, afterRead, NextRan, AllRan, Last, Ended, Asked, CodedBy, Run};
 
 const FIRST_LINE_LEN: usize = 2;
 
 pub struct Session {
     pub sheet: CutSheet,
     pub output: Output,
-    // Whether to go on reading.
-    pub open: bool,
+    // Why it does not go on, unless a write failed: the input ended, a push was refused, or a read failed.
+    pub ended: bool,
+    pub refused: bool,
     pub read_failed: bool,
 }
 
-pub fn run() {
+// What a run hands back.
+pub enum Finished {
+    // The first line could not be read.
+    Unread,
+    // It has no syntax code, and a question mark was printed.
+    Malformed(Output),
+    // It has this code, and the stream was cut.
+    Sheet(u32, Session),
+}
+
+pub fn run() -> Finished
+    ensures { λ r. ⌜ Run r ⌝ }
+{
     let mut line = [0u8; FIRST_LINE_LEN];
     let filled = fill(&mut line);
-    if filled.failed {
-        report_read();
-        return;
+    let failed = filled.failed;
+    report_read(failed);
+    if failed {
+        return Finished::Unread;
     }
     let len = filled.len;
     match first_line(&line[0..len]) {
         FirstLine::Code(code) => print_coded(code),
-        FirstLine::Malformed => print(b"?\n"),
+        FirstLine::Malformed => Finished::Malformed(print_question()),
     }
+}
+
+fn print_question() -> Output
+    ensures { λ r. ⌜ Asked r ⌝ }
+{
+    let question = Output {
+        len: 2,
+        failed: false,
+    };
+    let written = question.written(b"?\n");
+    report_write(written.failed);
+    written
 }
 
 // A code that the sheet refuses is malformed too.
-fn print_coded(code: u32) {
+fn print_coded(code: u32) -> Finished
+    ensures { λ r. ⌜ CodedBy (newSheetOf code) code r ⌝ }
+{
     match CutSheet::new(code) {
-        NewSheet::Made(sheet) => print_sheet(sheet),
-        NewSheet::Refused(_) => print(b"?\n"),
+        NewSheet::Made(sheet) => Finished::Sheet(code, print_sheet(sheet)),
+        NewSheet::Refused(_) => Finished::Malformed(print_question()),
     }
 }
 
-// A proved loop has to end, and nothing says that the input does, so the loop counts its turns down from a number that
-// no run uses up.
-fn print_sheet(sheet: CutSheet) {
+fn print_sheet(sheet: CutSheet) -> Session
+    ensures { λ r. ⌜ Ended sheet r ⌝ }
+{
     let mut block = [0u8; BLOCK_LEN];
     let mut pending = [0u8; PENDING_LEN];
     let mut out = [0u8; OUT_LEN];
     let mut rows = [0i64; ROWS_LEN];
     let mut text = [0u8; TEXT_LEN];
-    let mut session = Session::new(sheet);
-    let mut turns = u64::MAX;
-    while turns > 0 && session.open {
-        session = session.cut_next(&mut block, &mut pending, &mut out, &mut rows, &mut text);
-        turns -= 1;
-    }
-    session.end(&mut text);
+    print_with(
+        sheet,
+        &mut block,
+        &mut pending,
+        &mut out,
+        &mut rows,
+        &mut text,
+    )
+}
+
+fn print_with(
+    sheet: CutSheet,
+    block: &mut [u8; BLOCK_LEN],
+    pending: &mut [u8; PENDING_LEN],
+    out: &mut [u8; OUT_LEN],
+    rows: &mut [i64; ROWS_LEN],
+    text: &mut [u8; TEXT_LEN],
+) -> Session
+    requires { ⌜ pendSize ≤ length (now pending) ⌝ }
+    ensures { λ r. ⌜ Ended sheet r ⌝ }
+{
+    let new = Session::new(sheet);
+    let session = new.cut_all(block, pending, out, rows, text);
+    session.end(text)
 }
 
 impl Session {
@@ -84,9 +131,42 @@ impl Session {
         Session {
             sheet,
             output: Output::new(),
-            open: true,
+            ended: false,
+            refused: false,
             read_failed: false,
         }
+    }
+
+    // Whether to go on reading.
+    fn is_open(self) -> bool
+        ensures { λ r. ⌜ r ≡ isOpen self ⌝ }
+    {
+        !(self.ended | self.refused | self.read_failed | self.output.failed)
+    }
+
+    // A proved loop has to end, and nothing says that the input does, so the loop counts its turns down from a number
+    // that no run uses up.
+    fn cut_all(
+        self,
+        block: &mut [u8; BLOCK_LEN],
+        pending: &mut [u8; PENDING_LEN],
+        out: &mut [u8; OUT_LEN],
+        rows: &mut [i64; ROWS_LEN],
+        text: &mut [u8; TEXT_LEN],
+    ) -> Self
+        requires { ⌜ Bounded (self .output) ⌝ }
+        ensures { λ r. ⌜ Bounded (r .output) ⌝ }
+        ensures { λ r. ⌜
+            AllRan self (lent (now (pending .entry)) (now (out .entry)) (now (rows .entry)) (now (text .entry))) r (lent (now (pending .exit)) (now (out .exit)) (now (rows .exit)) (now (text .exit)))
+            ⌝ }
+    {
+        let mut session = self;
+        let mut turns = u64::MAX;
+        while turns > 0 && session.is_open() {
+            session = session.cut_next(block, pending, out, rows, text);
+            turns -= 1;
+        }
+        session
     }
 
     // Reads a block and cuts it.
@@ -99,13 +179,14 @@ impl Session {
         text: &mut [u8; TEXT_LEN],
     ) -> Self
         requires { ⌜ Bounded (self .output) ⌝ }
+        requires { ⌜ isOpen self ≡ true ⌝ }
         ensures { λ r. ⌜ Bounded (r .output) ⌝ }
         ensures { λ r. ⌜
-            NextCut self (now (block .exit)) (lent (now (pending .entry)) (now (out .entry)) (now (rows .entry)) (now (text .entry))) r (lent (now (pending .exit)) (now (out .exit)) (now (rows .exit)) (now (text .exit)))
+            NextRan self (lent (now (pending .entry)) (now (out .entry)) (now (rows .entry)) (now (text .entry))) r (lent (now (pending .exit)) (now (out .exit)) (now (rows .exit)) (now (text .exit)))
             ⌝ }
     {
         let filled = fill(block);
-        let len = usable(filled);
+        let len = usable_len(filled);
         let bytes: &[u8] = block;
         let session = self.cut_block(&bytes[0..len], pending, out, rows, text);
         session.after_read(filled)
@@ -115,13 +196,13 @@ impl Session {
     fn after_read(mut self, filled: Filled) -> Self
         ensures { λ r. ⌜ r ≡ afterRead self filled ⌝ }
     {
-        if filled.len < BLOCK_LEN {
-            self.open = false;
-        }
+        self.ended = filled.len < BLOCK_LEN && !filled.failed;
         self.read_failed = filled.failed;
         self
     }
 
+    // A payload can end in a failed write or a refused push, and in nothing else that closes a session. (The program is
+    // quicker by a percent where it asks for these alone.)
     fn cut_block(
         self,
         block: &[u8],
@@ -130,18 +211,15 @@ impl Session {
         rows: &mut [i64; ROWS_LEN],
         text: &mut [u8; TEXT_LEN],
     ) -> Self
-        requires { ⌜ Bounded (self .output) ⌝ }
+        requires { ⌜ Bounded (self .output) × (isOpen self ≡ true) ⌝ }
         ensures { λ r. ⌜ Bounded (r .output) ⌝ }
         ensures { λ r. ⌜
-            PayloadsCut self (lent (now (pending .entry)) (now (out .entry)) (now (rows .entry)) (now (text .entry))) (payloadsOf (now (block .entry))) r (lent (now (pending .exit)) (now (out .exit)) (now (rows .exit)) (now (text .exit)))
-            ⌝ }
-        ensures { λ r. ⌜
-            StateCut self (lent (now (pending .entry)) (now (out .entry)) (now (rows .entry)) (now (text .entry))) (payloadsOf (now (block .entry))) r (lent (now (pending .exit)) (now (out .exit)) (now (rows .exit)) (now (text .exit)))
+            Cut self (lent (now (pending .entry)) (now (out .entry)) (now (rows .entry)) (now (text .entry))) (payloadsOf (now (block .entry))) r (lent (now (pending .exit)) (now (out .exit)) (now (rows .exit)) (now (text .exit)))
             ⌝ }
     {
         let mut session = self;
         let mut at = 0;
-        while at < block.len() && session.open {
+        while at < block.len() && !session.output.failed && !session.refused {
             let end = payload_end(at, block.len());
             session = session.cut_payload(&block[at..end], pending, out, rows, text);
             at = end;
@@ -149,7 +227,7 @@ impl Session {
         session
     }
 
-    // The lines of a payload go behind those that are still to be written.
+    // The lines of a payload go behind those that are still to be written. The sheet ends at a payload that is refused.
     fn cut_payload(
         self,
         payload: &[u8],
@@ -159,9 +237,10 @@ impl Session {
         text: &mut [u8; TEXT_LEN],
     ) -> Self
         requires { ⌜ Bounded (self .output) × Payload (length (now payload)) ⌝ }
+        requires { ⌜ isOpen self ≡ true ⌝ }
         ensures { λ r. ⌜ Bounded (r .output) ⌝ }
         ensures { λ r. ⌜
-            PayloadCut self (now (payload .entry)) (lent (now (pending .entry)) (now (out .entry)) (now (rows .entry)) (now (text .entry))) r (lent (now (pending .exit)) (now (out .exit)) (now (rows .exit)) (now (text .exit)))
+            Cut self (lent (now (pending .entry)) (now (out .entry)) (now (rows .entry)) (now (text .entry))) (now (payload .entry) ∷ []) r (lent (now (pending .exit)) (now (out .exit)) (now (rows .exit)) (now (text .exit)))
             ⌝ }
     {
         let output = self.output;
@@ -172,7 +251,7 @@ impl Session {
         let next = cut.sheet;
         let answer = cut.answer;
         let SheetAnswer::Written(count) = answer else {
-            return self.closed(roomy);
+            return self.refusing(roomy);
         };
         let end = len + count;
         Session {
@@ -181,35 +260,34 @@ impl Session {
                 len: end,
                 failed: roomy.failed,
             },
-            open: !roomy.failed,
+            ended: false,
+            refused: false,
             read_failed: false,
         }
     }
 
-    // The sheet ends at a payload that is refused.
-    fn closed(self, output: Output) -> Self
-        ensures { λ r. ⌜ r ≡ closedAt (self .sheet) output ⌝ }
+    fn refusing(self, output: Output) -> Self
+        ensures { λ r. ⌜ r ≡ refusing self output ⌝ }
     {
         let sheet = self.sheet;
         Session {
             sheet,
             output,
-            open: false,
+            ended: false,
+            refused: true,
             read_failed: false,
         }
     }
 
     // Writes the last line, unless a read failed: a sheet without it is seen not to be whole.
-    fn end(self, text: &mut [u8; TEXT_LEN])
+    fn end(self, text: &mut [u8; TEXT_LEN]) -> Self
         requires { ⌜ Bounded (self .output) ⌝ }
-        ensures { λ _. ⌜ EndPut (self .«read_failed») self (now (text .entry)) (now (text .exit)) ⌝ }
+        ensures { λ r. ⌜ Bounded (r .output) ⌝ }
+        ensures { λ r. ⌜ Last self (now (text .entry)) r ⌝ }
     {
         let output = self.output;
         if self.read_failed {
-            let written = output.written(text);
-            report_write(!written.failed);
-            report_read();
-            return;
+            return self.over(output.written(text));
         }
         let roomy = with_room(output, text);
         let sheet = self.sheet;
@@ -217,15 +295,24 @@ impl Session {
             len: finish_from(sheet, text, roomy.len),
             failed: roomy.failed,
         };
-        let written = whole.written(text);
-        report_write(!written.failed);
+        self.over(whole.written(text))
+    }
+
+    // Says on standard error what failed.
+    fn over(mut self, output: Output) -> Self
+        ensures { λ r. ⌜ r ≡ withOutput self output ⌝ }
+    {
+        report_write(output.failed);
+        report_read(self.read_failed);
+        self.output = output;
+        self
     }
 }
 
 // How many bytes of a block to cut. Where a read failed, a payload that is not whole is left alone: with the rest of
 // it, it might be cut otherwise.
-fn usable(filled: Filled) -> usize
-    ensures { λ r. ⌜ r ≡ usableOf filled ⌝ }
+fn usable_len(filled: Filled) -> usize
+    ensures { λ r. ⌜ r ≡ usable (filled .failed) (filled .len) ⌝ }
 {
     let len = filled.len;
     if filled.failed {

@@ -28,8 +28,8 @@ use Rattle.splitter.proofs.Answers.{clash, rows-said}
 use Rattle.splitter.proofs.Clocks.{state-few}
 use Rattle.splitter.proofs.Laws.{push-cases, push-pend-length}
 use Rattle.sheet.specs.Layout.{lowDigits}
-use Rattle.sheet.specs.Run.{Lending, Roomy, AllRoomy, stepOf, runOn, runSteps}
-use Rattle.sheet.specs.Sheet.{Standing, payloadSize, payloadsBy, payloadsOf, timeOf, linesOf, pendSize, outSize, rowsSize, pushed, endOf, goOn, sheetFrom, sheetOf}
+use Rattle.sheet.specs.Run.{Lending, Roomy, AllRoomy, stepOf, runOn, runSteps, restOf}
+use Rattle.sheet.specs.Sheet.{Standing, payloadSize, payloadsBy, payloadsOf, AllPayloads, timeOf, linesOf, pendSize, outSize, rowsSize, pushed, endOf, goOn, sheetFrom, sheetOf}
 use Rattle.sheet.specs.Step.{Wrote, written, Step, Lent, lent, newSheet, sheetAfter, stepBy, pushOf, tightText, textSize, step}
 use Rattle.sheet.specs.declared.sheet.CutSheet.{CutSheet}
 use Rattle.sheet.proofs.Lines.{lines-front, lines-low, payload-loose}
@@ -185,11 +185,6 @@ push-same s p t b o o′ r r′ hp ho ho′ hr hr′ =
     like = push-alike s p t b b o o′ r r′ refl hp refl ho ho′ hr hr′
 
 -- ---- the payloads of a stream
-
--- each has a byte, and at most 4096
-abbrev pub AllPayloads : List (List ℕ) → Type 0
-AllPayloads [] = Unit {0}
-AllPayloads (p ∷ ps) = ((0 < length p) × (length p ≤ payloadSize)) × AllPayloads ps
 
 -- how many there may be does not count, if only there may be as many as there are bytes
 by-enough : (k m : ℕ) (l : List ℕ) → length l ≤ k → length l ≤ m → payloadsBy k l ≡ payloadsBy m l
@@ -359,9 +354,10 @@ sheet-level (p ∷ ps) small s b b′ n n′ g front l l′ low =
 
 -- ---- one step
 
--- the rest of a sheet, from a state and a pending buffer on
-abbrev pub restOf : CutSheet → List ℕ → List (List ℕ) → List ℕ
-restOf c b ps = sheetFrom (record { splitter = c .splitter; pend = b; lines = c .number; begun = c .begun }) ps
+-- where no payload is left it is the last line
+pub rest-none : (c : CutSheet) (b : List ℕ) → restOf c b [] ≡ endOf (c .splitter)
+unfolding restOf
+rest-none c b = refl
 
 -- of a text with room, the push alone decides
 pub step-open : (c : CutSheet) (p : List ℕ) (b : Lent) → length p ≤ payloadSize → textSize ≤ length (b .text)
@@ -383,6 +379,7 @@ on-same : (c : CutSheet) (b : Lent) (ps : List (List ℕ)) → AllPayloads ps �
     → o .answer ≡ a
     → runOn ((stepBy a false c b o) .answer) (stepBy a false c b o) (λ d z. restOf d z ps)
     ≡ goOn a (standing (c .splitter) (b .pend) (c .number) (c .begun)) o′ (λ e. sheetFrom e ps)
+unfolding restOf
 on-same c b ps small o o′ same long (refused k) e = refl
 on-same c b ps small o o′ same long (done t r x) e =
     ap (λ (l : List ℕ). l ++ restOf (sheetAfter c (o .state) r) (o .pend) ps)
@@ -409,6 +406,7 @@ module _ (c : CutSheet) (b : List ℕ) (k : Lending) (ps : List (List ℕ))
     (small : AllPayloads (k .payload ∷ ps)) (long : pendSize ≤ length b) where
   -- a step gives the next lines of the sheet, or its last
   pub step-gives : runOn ((stepOf c b k) .answer) (stepOf c b k) (λ d z. restOf d z ps) ≡ restOf c b (k .payload ∷ ps)
+  unfolding restOf
   step-gives =
       ap (λ (a : Step). runOn (a .answer) a (λ d z. restOf d z ps))
       (step-open c (k .payload) given (small .0 .1) (room .text-room))
@@ -450,7 +448,7 @@ run-same (written n) x go go′ e = ap (λ (l : List ℕ). take n (x .text) ++ l
 pub run-gives : (ks : List Lending) → AllRoomy ks → AllPayloads (map (λ (k : Lending). k .payload) ks)
     → (c : CutSheet) (b : List ℕ) → pendSize ≤ length b
     → runSteps c b ks ≡ restOf c b (map (λ (k : Lending). k .payload) ks)
-run-gives [] room small c b long = refl
+run-gives [] room small c b long = sym (rest-none c b)
 run-gives (k ∷ ks) room small c b long =
     run-same ((stepOf c b k) .answer) (stepOf c b k) (λ d z. runSteps d z ks)
     (λ d z. restOf d z (map (λ (j : Lending). j .payload) ks))
@@ -458,16 +456,22 @@ run-gives (k ∷ ks) room small c b long =
     (omega (arith, step-pend-length c (k .payload) (lent b (k .out) (k .rows) (k .text)))))
     ∙ step-gives c b k (map (λ (j : Lending). j .payload) ks) (room .0) small long
 
+-- from a new sheet on, whatever the pending buffer holds, the rest is the sheet
+pub rest-sheet : (code : ℕ) (stream pend : List ℕ) → pendSize ≤ length pend
+    → restOf (newSheet code) pend (payloadsOf stream) ≡ sheetOf code stream
+unfolding restOf sheetOf
+rest-sheet code stream pend long =
+    sheet-level (payloadsOf stream) (payloads-small stream) (new code) pend (replicate pendSize 0) 0 0 false refl long
+    (full {A = ℕ} pendSize 0) refl
+
 -- the steps over a stream's payloads give its sheet, whatever the buffers hold
 pub steps-give-sheet : (code : ℕ) (stream : List ℕ) (calls : List Lending)
     → map (λ (k : Lending). k .payload) calls ≡ payloadsOf stream → AllRoomy calls
     → (pend : List ℕ) → pendSize ≤ length pend → runSteps (newSheet code) pend calls ≡ sheetOf code stream
-unfolding sheetOf
 steps-give-sheet code stream calls e room pend long =
     run-gives calls room (subst AllPayloads (sym e) (payloads-small stream)) (newSheet code) pend long
     ∙ ap (restOf (newSheet code) pend) e
-    ∙ sheet-level (payloadsOf stream) (payloads-small stream) (new code) pend (replicate pendSize 0) 0 0 false refl long
-    (full {A = ℕ} pendSize 0) refl
+    ∙ rest-sheet code stream pend long
 
 -- ---- the shortest buffers
 

@@ -24,9 +24,9 @@ use Rattle.splitter.proofs.Clocks.{state-few, since-few, since-forgotten}
 use Rattle.splitter.proofs.Laws.{push-pend-length}
 use Rattle.splitter.proofs.Reached.{called-sound, called-syntax, push-growth, new-sound}
 use Rattle.splitter.proofs.Refusing.{push-refused, push-ground}
-use Rattle.sheet.specs.Sheet.{Standing, payloadSize, payloadsOf, timeOf, linesOf, pendSize, outSize, rowsSize, pushed, moved, endOf, goOn, sheetFrom, opened, sheetOf}
+use Rattle.sheet.specs.Sheet.{Standing, payloadSize, payloadsOf, AllPayloads, timeOf, linesOf, pendSize, outSize, rowsSize, pushed, moved, endOf, goOn, sheetFrom, opened, sheetOf}
 use Rattle.sheet.specs.Pushes.{pushOn, pushesFrom, pushesOf, EachPush, ElevenOnly, NotRefused, rowsSaid, linesFrom, lastState}
-use Rattle.sheet.proofs.Sheets.{AllPayloads, payloads-none, payloads-next, payloads-all, payloads-small, stream-induction}
+use Rattle.sheet.proofs.Sheets.{payloads-none, payloads-next, payloads-all, payloads-small, stream-induction}
 
 -- ---- the pushes are the sheet's
 

@@ -45,11 +45,11 @@ use Rattle.splitter.proofs.Laws.{push-cases, rows-fit, push-rows-length, push-p
 use Rattle.splitter.proofs.Places.{Part, rest, begun-yes, rest-part, tail-rest}
 use Rattle.numbers.specs.Decimal.{decimal}
 use Rattle.sheet.specs.Layout.{right, lowDigits, line, endLine}
-use Rattle.sheet.specs.Sheet.{payloadSize, payloadsOf, timeOf, linesOf, pendSize, outSize, rowsSize, endOf, goOn, sheetFrom, opened, sheetOf}
+use Rattle.sheet.specs.Sheet.{payloadSize, payloadsOf, AllPayloads, timeOf, linesOf, pendSize, outSize, rowsSize, endOf, goOn, sheetFrom, opened, sheetOf}
 use Rattle.sheet.specs.Whole.{frameLines, sheetLines, stampsFrom, sheetStamps, stampAt, alikeLines}
 use Rattle.sheet.proofs.Example.{ascii}
 use Rattle.sheet.proofs.Lines.{lines-split, lines-front}
-use Rattle.sheet.proofs.Sheets.{standing, AllPayloads, payloads-none, payloads-next, payloads-all, payloads-small}
+use Rattle.sheet.proofs.Sheets.{standing, payloads-none, payloads-next, payloads-all, payloads-small}
 
 -- ---- the pushes that a sheet makes
 

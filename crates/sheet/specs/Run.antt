@@ -4,7 +4,7 @@ use mathlib.Core.List.{List, [], _∷_, _++_}
 use Prim.Native.Nat.{ℕ, _≤_}
 use lib.IntN.{ℤ}
 use lib.ListN.{length, take}
-use Rattle.sheet.specs.Sheet.{endOf, outSize, rowsSize}
+use Rattle.sheet.specs.Sheet.{endOf, sheetFrom, outSize, rowsSize}
 use Rattle.sheet.specs.Step.{Wrote, refused, written, Step, lent, step, textSize}
 use Rattle.sheet.specs.declared.sheet.CutSheet.{CutSheet}
 
@@ -37,3 +37,12 @@ runOn (written n) a go = take n (a .text) ++ go (a .state) (a .pend)
 abbrev pub runSteps : CutSheet → List ℕ → List Lending → List ℕ
 runSteps c pend [] = endOf (c .splitter)
 runSteps c pend (k ∷ ks) = runOn ((stepOf c pend k) .answer) (stepOf c pend k) (λ d b. runSteps d b ks)
+
+-- what is still to be printed from a state and a pending buffer on, where these payloads come
+unfoldable pub restOf : CutSheet → List ℕ → List (List ℕ) → List ℕ
+restOf c pend ps = sheetFrom (record {
+  splitter = c .splitter;
+  pend = pend;
+  lines = c .number;
+  begun = c .begun;
+}) ps

@@ -1,7 +1,7 @@
 -- THE SHEET of a stream, as bytes: document 01, port order 7. And what the program prints for its standard input.
 use mathlib.Core.Bool.{Bool, true, false, cond, _&&_}
 use mathlib.Core.List.{List, [], _∷_, _++_}
-use Prim.Native.Nat.{ℕ, zero, suc, _+_, _-_, _*_, _/_}
+use Prim.Native.Nat.{ℕ, zero, suc, _+_, _-_, _*_, _/_, _≤_, _<_}
 use lib.Dec.{eqb, leb}
 use lib.IntN.{ℤ, pos}
 use lib.ListN.{length, take, drop, replicate}
@@ -32,6 +32,11 @@ payloadsBy (suc k) (b ∷ stream) = take payloadSize (b ∷ stream) ∷ payloads
 -- there are no more payloads than bytes
 unfoldable pub payloadsOf : List ℕ → List (List ℕ)
 payloadsOf stream = payloadsBy (length stream) stream
+
+-- each has a byte, and at most 4096
+abbrev pub AllPayloads : List (List ℕ) → Type 0
+AllPayloads [] = Unit {0}
+AllPayloads (p ∷ ps) = ((0 < length p) × (length p ≤ payloadSize)) × AllPayloads ps
 
 -- 'the first with timestamp 0': has the first gone already?
 abbrev pub timeOf : Bool → Pts

@@ -12,6 +12,7 @@ use Rattle.io.specs.Digits.{Fewest, digits as ioDigits}
 use Rattle.numbers.specs.Decimal.{digits, decimal, right}
 use Rattle.text.specs.Output.{noOutput, blockLength, nextPlace, lenAfter, blockAfter, Put, Written, Holds}
 use Rattle.text.specs.declared.output.Output.{Output}
+use Rattle.text.proofs.Calling.{log-failed}
 
 -- ---- one byte
 
@@ -36,12 +37,12 @@ put-within byte output block h = record {
 }
 
 pub put-full : (byte : ℕ) (output written : Output) (block : List ℕ) → blockLength ≤ output .len
-    → Written output written
+    → Written output written block
     → Put (byte ∷ []) output (record { len = 1; failed = written .failed }) block (set block 0 byte)
 put-full byte output written block h w = record {
   len = rw (place-full (output .len) h);
   block = rw (place-full (output .len) h);
-  failed = w .failed;
+  failed = log-failed (w .handed .log);
   room = λ e. absurd (let no : ⊥ = omega arith in no);
 }
 

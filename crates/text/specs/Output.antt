@@ -1,10 +1,11 @@
 -- The block that output is collected in, as bytes are put into it.
 use mathlib.Core.Path.{_≡_}
-use mathlib.Core.Bool.{true, false, cond}
+use mathlib.Core.Bool.{Bool, true, false, not, cond}
 use mathlib.Core.List.{List, [], _∷_}
 use Prim.Native.Nat.{ℕ, _+_, _≤_}
 use lib.Dec.{ltb}
 use lib.ListN.{length, take, set}
+use Rattle.text.specs.Call.{Call, isRead, sent, some, Log, Hands}
 use Rattle.text.specs.declared.output.Output.{Output}
 
 -- nothing is to be written yet
@@ -35,10 +36,25 @@ pub record Put (text : List ℕ) (before after : Output) (entry exit : List ℕ)
   pub failed : before .failed ≡ true → after .failed ≡ true
   pub room : before .len + length text ≤ blockLength → after .failed ≡ before .failed
 
+-- of the bytes that are still to be written a front is handed over, by these calls, unless a write failed before
+pub record Handed (before after : Output) (block : List ℕ) : Type 0 where
+  pub calls : List Call
+  pub reads : some isRead calls ≡ false
+  pub log : Log (before .failed) (after .failed) calls
+  pub hands : before .failed ≡ false
+      → Hands (sent calls) (take (before .len) block) (take (after .len) block) (after .failed)
+
+-- a text is written, by these calls: all of it, unless one failed
+pub record WroteAll (text : List ℕ) (all : Bool) : Type 0 where
+  pub calls : List Call
+  pub reads : some isRead calls ≡ false
+  pub log : Log false (not all) calls
+  pub hands : Hands (sent calls) text [] (not all)
+
 -- the block is written, as far as it is filled
-pub record Written (before after : Output) : Type 0 where
+pub record Written (before after : Output) (block : List ℕ) : Type 0 where
   pub len : after .len ≡ 0
-  pub failed : before .failed ≡ true → after .failed ≡ true
+  pub handed : Handed before after block
 
 -- just this text is to be written, and no write has failed
 pub record Holds (text : List ℕ) (output : Output) (block : List ℕ) : Type 0 where

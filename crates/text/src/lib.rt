@@ -1,5 +1,6 @@
 // Text as the programs read and write it: numbers, bytes as hexadecimal digits, lines, input that comes in pieces, and
 // output that is collected in a block.
+mod call;
 mod input;
 mod line;
 mod number;

@@ -1,10 +1,9 @@
 // Output, collected in a lent block and written in one piece: a write for each byte would cost more than what the
 // programs do between. Bytes are put into a block of one length; a program that fills a block of another length by
-// itself has it written by `written`. That the blocks reach standard output in their order is tested, not proved: files
-// mean nothing in a contract.
+// itself has it written by `written`.
+use crate::call::write_at;
 use crate::part::front;
 use libc::STDERR_FILENO;
-use libc::STDOUT_FILENO;
 use numbers::padding;
 use numbers::places;
 ghost use mathlib.Core.Path.{_≡_};
@@ -12,7 +11,7 @@ ghost use mathlib.Core.List.{_∷_, []};
 ghost use Prim.Native.Nat.{_+_, _≤_};
 ghost use lib.ListN.{length, replicate};
 ghost use Rattle.numbers.specs.Decimal.{decimal, right};
-ghost use Rattle.text.specs.Output.{blockLength, noOutput, Put, Written};
+ghost use Rattle.text.specs.Output.{blockLength, noOutput, Put, Written, WroteAll};
 
 pub const BLOCK_LEN: usize = 8192;
 
@@ -118,14 +117,14 @@ impl Output {
     }
 
     pub fn flushed(self, block: &[u8; BLOCK_LEN]) -> Self
-        ensures { λ r. ⌜ Written self r ⌝ }
+        ensures { λ r. ⌜ Written self r (now (block .entry)) ⌝ }
     {
         self.written(block)
     }
 
     // Writes a block of any length as far as it is filled, unless a write failed before.
     pub fn written(self, block: &[u8]) -> Self
-        ensures { λ r. ⌜ Written self r ⌝ }
+        ensures { λ r. ⌜ Written self r (now (block .entry)) ⌝ }
     {
         if self.failed {
             return Output {
@@ -133,12 +132,27 @@ impl Output {
                 failed: true,
             };
         }
-        let written = io::write_all(STDOUT_FILENO, front(block, self.len));
+        let written = write_all(front(block, self.len));
         Output {
             len: 0,
             failed: !written,
         }
     }
+}
+
+// Writes a text to standard output, in as many calls as it takes. A call that fails or takes nothing is the last one.
+fn write_all(text: &[u8]) -> bool
+    ensures { λ r. ⌜ WroteAll (now (text .entry)) r ⌝ }
+{
+    let mut at = 0;
+    while at < text.len() {
+        let count = io::count(write_at(text, at), &text[at..]);
+        if count == 0 {
+            return false;
+        }
+        at += count;
+    }
+    true
 }
 
 // Says a message on standard error where a read or a write failed: a program of this language has no exit status.

@@ -6,7 +6,7 @@ use Rattle.sheet.specs.Step.{lent}
 use Rattle.sheet.proofs.Stepping.{step-fields}
 use Rattle.cutsheet.specs.Bounds.{Within}
 use Rattle.cutsheet.proofs.Room.{step-room, rest-length}
-use Rattle.cutsheet.proofs.Glue.{passed-from}
+use Rattle.cutsheet.proofs.From.{passed-from}
 use borrow.Author.Needs.{needs}
 use Rattle.cutsheet.proofs.session.cut_from.Statement.{statement}
 use Rattle.cutsheet.proofs.session.cut_from.Tie as tie

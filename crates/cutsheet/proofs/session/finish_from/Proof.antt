@@ -8,7 +8,7 @@ use Rattle.sheet.proofs.Stepping.{end-fields}
 use Rattle.sheet.specs.declared.sheet.SheetAnswer.the-variants.{Written}
 use Rattle.cutsheet.specs.Bounds.{Within}
 use Rattle.cutsheet.proofs.Room.{finish-room, finished, rest-length, count-room}
-use Rattle.cutsheet.proofs.Glue.{end-from}
+use Rattle.cutsheet.proofs.From.{end-from}
 use borrow.Author.Needs.{needs}
 use Rattle.cutsheet.proofs.session.finish_from.Statement.{statement}
 use Rattle.cutsheet.proofs.session.finish_from.Tie as tie

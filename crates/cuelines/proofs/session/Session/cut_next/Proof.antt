@@ -31,7 +31,7 @@ was s =
     (slots (length (now (s .args .times))) (now (s .args .found)))
 
 most : (f : tie.After-fill) → f .fill .result .len ≤ length (f .fill .last .0)
-most f = omega (arith, f .fill .ensures, f .fill .kept .0)
+most f = f .fill .ensures .most
 
 -- ---- the needs
 

@@ -5,7 +5,7 @@ use Rattle.cutsheet.proofs.session.Session.after_read.Statement.{statem
 use Rattle.cutsheet.proofs.session.Session.after_read.Tie as tie
 
 returns : tie.Need-returns
-returns c = rw (lt-ltb (c .before .before .args .filled .len) blockLength (c .if1 .taken))
+returns c = rw (lt-ltb (c .before .before .before .args .filled .len) blockLength (c .before .if1 .taken))
 
 returns-2 : tie.Need-returns-2
 returns-2 c = rw (le-ltb (c .before .before .args .filled .len) blockLength (c .if1 .left))

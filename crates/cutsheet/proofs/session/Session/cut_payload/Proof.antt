@@ -3,12 +3,13 @@
 use mathlib.Core.Path.{ap}
 use Prim.Native.Nat.{_-_, _≤_}
 use native.Mathlib.Omega.{arith}
+use lib.ListN.{length}
+use Rattle.sheet.specs.Run.{Roomy}
 use Rattle.sheet.specs.Step.{Lent, lent}
 use Rattle.cutsheet.specs.Bounds.{textLength}
-use Rattle.cutsheet.specs.Glue.{Sized}
 use Rattle.cutsheet.specs.declared.session.Session.{Session}
 use Rattle.cutsheet.proofs.Room.{count-room}
-use Rattle.cutsheet.proofs.Glue.{payload-written, payload-refused}
+use Rattle.cutsheet.proofs.Cutting.{payload-written, payload-refused}
 use borrow.Author.Needs.{needs}
 use Rattle.cutsheet.proofs.session.Session.cut_payload.Statement.{statement}
 use Rattle.cutsheet.proofs.session.Session.cut_payload.Tie as tie
@@ -29,8 +30,10 @@ is k =
     lent (k .cut-from .last .1 .1 .0) (k .cut-from .last .1 .1 .1 .0) (k .cut-from .last .1 .1 .1 .1 .0)
     (k .cut-from .last .1 .1 .1 .1 .1 .0)
 
-sized : (k : tie.After-cut-from) → Sized (was k)
-sized k = record { out = search needs; rows = search needs; text = search needs }
+-- they have room for a payload and its lines
+lends : (k : tie.After-cut-from)
+    → Roomy (length (was k .out)) (length (was k .rows)) (length (was k .text) - room k .with-room .result .len)
+lends k = search needs
 
 -- the lines end within the text
 fits : (c : tie.After-answer)
@@ -50,18 +53,18 @@ enum-known-answer c = search needs
 enum-told : tie.Need-enum-told
 enum-told c = search needs
 
-closed-requires : tie.Need-closed-requires
-closed-requires c κs = search needs
+refusing-requires : tie.Need-refusing-requires
+refusing-requires c κs = search needs
 
 returns : tie.Need-returns
 returns c =
     let k = c .before .before .before .before in (
-      omega (arith, ap (λ (s : Session). s .output .len) (c .closed .ensures), room k .with-room .ensures .0),
+      omega (arith, ap (λ (s : Session). s .output .len) (c .refusing .ensures), room k .with-room .ensures .0),
       payload-refused (begin k .args .self) (begin k .args .payload .now) (was k) (is k) (room k .with-room .result)
-          (k .cut-from .result)
-          (room k .with-room .ensures .1) (k .cut-from .ensures .1) (sized k) (c .before .enum-told .given .0 .0)
+          (k .cut-from .result) (begin k .pre .1) (begin k .pre .0 .1) (search needs) (lends k) (search needs)
+          (room k .with-room .ensures .1) (k .cut-from .ensures .1) (c .before .enum-told .given .0 .0)
           (c .before .enum-told .given .1)
-          (c .closed .result) (c .closed .ensures),
+          (c .refusing .result) (c .refusing .ensures),
     )
 
 add-end : tie.Need-add-end
@@ -69,12 +72,12 @@ add-end c = omega (arith, fits (c .before))
 
 returns-2 : tie.Need-returns-2
 returns-2 c =
-    let k = c .before .before .before .before .before in
-    let answer = c .before .before .answer .given in (
-      omega (arith, fits (c .before .before)),
+    let k = c .before .before .before .before in
+    let answer = c .before .answer .given in (
+      omega (arith, fits (c .before)),
       payload-written (begin k .args .self) (begin k .args .payload .now) (was k) (is k) (room k .with-room .result)
-          (k .cut-from .result)
-          (room k .with-room .ensures .1) (k .cut-from .ensures .1) (sized k) (answer .0 .0) (answer .1),
+          (k .cut-from .result) (begin k .pre .1) (begin k .pre .0 .1) (search needs) (lends k) (search needs)
+          (room k .with-room .ensures .1) (k .cut-from .ensures .1) (answer .0 .0) (answer .1),
     )
 
 pub cut-payload-spec : {M : Type 1} → statement M
@@ -85,7 +88,7 @@ cut-payload-spec =
     cut-from-requires
     enum-known-answer
     enum-told
-    closed-requires
+    refusing-requires
     returns
     add-end
     returns-2)
