@@ -23,7 +23,8 @@ use Rattle.text.specs.declared.output.Output.{Output}
 use Rattle.text.proofs.Calling.{none-join, sent-join, log-none, log-join, log-failed, no-writes, hands-none, hands-join}
 use Rattle.cutsheet.specs.Bounds.{Payload, textLength}
 use Rattle.cutsheet.specs.Step.{stepFrom, CutFrom}
-use Rattle.cutsheet.specs.Run.{isOpen, refusing, due, Refuses, Cut}
+use Rattle.cutsheet.specs.Run.{isOpen, Refuses}
+use Rattle.cutsheet.specs.Parts.{refusing, due, Cut}
 use Rattle.cutsheet.specs.declared.session.Session.{Session}
 
 -- ---- what is handed over

@@ -25,7 +25,8 @@ use Rattle.text.specs.declared.input.Filled.{Filled}
 use Rattle.text.specs.declared.output.Output.{Output}
 use Rattle.text.proofs.Calling.{some-join, none-join, got-join, sent-join, log-none, log-join, log-failed, log-reads, no-reads, no-writes, hands-none, hands-join}
 use Rattle.cutsheet.specs.Bounds.{blockLength}
-use Rattle.cutsheet.specs.Run.{newSession, withOutput, isOpen, due, Cut, afterRead, usable, taken, Told, Ran, Stopped, blocksMost, kept, Last, Ended, Asked, CodedBy, inputMost, cuttable, Run}
+use Rattle.cutsheet.specs.Run.{isOpen, usable, taken, blocksMost, kept, inputMost, readFailed, writeFailed, lastLine, cuttable, Run}
+use Rattle.cutsheet.specs.Parts.{newSession, withOutput, due, Cut, afterRead, Told, Ran, Stopped, Last, Ended, Asked, CodedBy}
 use Rattle.cutsheet.specs.declared.session.Finished.{Finished}
 use Rattle.cutsheet.specs.declared.session.Finished.the-variants.{Unread, Malformed, Sheet}
 use Rattle.cutsheet.specs.declared.session.Session.{Session}
@@ -521,3 +522,22 @@ module _ (line : List ℕ) (two : length line ≡ 2) (f : Filled) (fills : Filli
       let made : CodedBy (NewSheet.Made (newSheet code)) code r =
       subst (λ (n : NewSheet). CodedBy n code r) (coded-made code read l) coded in
       subst Run (sym (made .1)) (run-sheet code e l (made .0) (made .2))
+
+-- ---- what the contract says
+
+-- Unless a read or a write failed, what was written is what is to be printed for all that was read.
+pub run-prints : {r : Finished} (run : Run r) → readFailed r ≡ false → writeFailed r ≡ false
+    → sent (run .calls) ≡ printed (got (run .calls))
+run-prints run e f =
+    sym (append-nil (sent (run .calls)))
+    ∙ rw (e, cuttable-all (got (run .calls))) at (run .hands .whole f)
+
+-- Where a read failed, it is that of the first line and the payloads that are whole, without the last line.
+pub run-unfinished : {r : Finished} (run : Run r) → readFailed r ≡ true → writeFailed r ≡ false
+    → sent (run .calls) ++ lastLine r ≡ printed (cuttable true (got (run .calls)))
+run-unfinished run e f = rw e at (run .hands .whole f)
+
+-- Whatever failed, it is a front of that.
+pub run-front : {r : Finished} (run : Run r)
+    → sent (run .calls) ++ run .hands .behind ≡ printed (cuttable (readFailed r) (got (run .calls)))
+run-front run = run .hands .front

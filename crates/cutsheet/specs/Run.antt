@@ -1,173 +1,22 @@
--- THE RUN: from all that was read to all that was written. What a session still has to print, what it hands over of
--- that with each payload and each block, and the contract of the whole program.
+-- THE RUN: from all that was read to all that was written, the contract of the function that `main` calls. A call is
+-- what crates/text/specs/Call.antt says; what is printed for an input, crates/sheet/specs/Sheet.antt.
 use mathlib.Core.Path.{_≡_}
-use mathlib.Core.Bool.{Bool, true, false, not, cond, _||_, _&&_}
-use mathlib.Core.List.{List, [], _∷_, _++_}
-use Prim.Native.Nat.{ℕ, suc, _+_, _-_, _*_, _^_, _%_, _≤_, _<_}
-use lib.Dec.{ltb}
+use mathlib.Core.Bool.{Bool, true, false, not, cond, _||_}
+use mathlib.Core.List.{List, [], _++_}
+use Prim.Native.Nat.{ℕ, _+_, _-_, _*_, _^_, _%_, _≤_, _<_}
 use lib.ListN.{length, take, drop}
-use Rattle.sheet.specs.Run.{Roomy, restOf}
-use Rattle.sheet.specs.Sheet.{payloadSize, payloadsOf, AllPayloads, pendSize, endOf, firstLine, questionLine, printed}
+use Rattle.sheet.specs.Run.{Roomy}
+use Rattle.sheet.specs.Sheet.{payloadSize, pendSize, endOf, firstLine, questionLine, printed}
 use Rattle.sheet.specs.Step.{refused, Lent, step}
 use Rattle.sheet.specs.declared.input.FirstLine.{FirstLine}
 use Rattle.sheet.specs.declared.sheet.CutSheet.{CutSheet}
-use Rattle.sheet.specs.declared.sheet.NewSheet.{NewSheet}
-use Rattle.text.specs.Call.{Call, isRead, findsEnd, failsRead, got, sent, some, Log, Hands}
-use Rattle.text.specs.Output.{noOutput}
-use Rattle.text.specs.declared.input.Filled.{Filled}
-use Rattle.text.specs.declared.output.Output.{Output}
+use Rattle.text.specs.Call.{Call, findsEnd, failsRead, got, sent, some, Log, Hands}
 use Rattle.cutsheet.specs.Bounds.{Payload, blockLength}
 use Rattle.cutsheet.specs.declared.session.Finished.{Finished}
 use Rattle.cutsheet.specs.declared.session.Finished.the-variants.{Unread, Malformed, Sheet}
 use Rattle.cutsheet.specs.declared.session.Session.{Session}
 
--- ---- a session
-
-abbrev pub newSession : CutSheet → Session
-newSession c = record { sheet = c; output = noOutput; refused = false; ended = false; «read_failed» = false }
-
-abbrev pub withOutput : Session → Output → Session
-withOutput s o = record {
-  sheet = s .sheet;
-  output = o;
-  refused = s .refused;
-  ended = s .ended;
-  «read_failed» = s .«read_failed»;
-}
-
--- it ends at a payload that is refused
-abbrev pub refusing : Session → Output → Session
-refusing s o = record { sheet = s .sheet; output = o; refused = true; ended = false; «read_failed» = false }
-
--- it goes on until the input ends, a push is refused, or a read or a write fails
-abbrev pub isOpen : Session → Bool
-isOpen s = not (s .ended || s .refused || s .«read_failed» || s .output .failed)
-
--- what it still has to print where these payloads come: the lines that are collected, and the rest of the sheet, of
--- which a closed session has the last line alone
-abbrev pub due : Session → Lent → List (List ℕ) → List ℕ
-due s b ps =
-    take (s .output .len) (b .text) ++ cond (isOpen s) (restOf (s .sheet) (b .pend) ps) (endOf (s .sheet .splitter))
-
--- the sheet refuses a payload, though the buffers have room for it
-pub record Refuses (c : CutSheet) : Type 0 where
-  pub payload : List ℕ
-  pub small : Payload (length payload)
-  pub buffers : Lent
-  pub pending : pendSize ≤ length (buffers .pend)
-  pub room : Roomy (length (buffers .out)) (length (buffers .rows)) (length (buffers .text))
-  pub number : ℕ
-  pub answer : step c payload buffers .answer ≡ refused number
-
--- ---- payloads
-
--- they are cut: of what the session has to print a front is written, and unless a write fails the rest is as long as it
--- has to be, whatever payloads come
-pub record Cut (s : Session) (was : Lent) (ps : List (List ℕ)) (r : Session) (is : Lent) : Type 0 where
-  pub calls : List Call
-  pub reads : some isRead calls ≡ false
-  pub log : Log (s .output .failed) (r .output .failed) calls
-  pub ended : r .ended ≡ s .ended
-  pub unread : r .«read_failed» ≡ s .«read_failed»
-  pub stops : (s .refused ≡ true → Refuses (s .sheet)) → r .refused ≡ true → Refuses (r .sheet)
-  pub hands : s .output .failed ≡ false → (qs : List (List ℕ)) → AllPayloads qs
-      → Hands (sent calls) (due s was (ps ++ qs)) (due r is qs) (r .output .failed)
-
--- ---- blocks
-
--- a block that is not full is the last
-abbrev pub afterRead : Session → Filled → Session
-afterRead s f = record {
-  sheet = s .sheet;
-  output = s .output;
-  refused = s .refused;
-  ended = ltb (f .len) blockLength && not (f .failed);
-  «read_failed» = f .failed;
-}
-
--- where a read failed, a payload that is not whole is left alone
-abbrev pub usable : Bool → ℕ → ℕ
-usable failed len = cond failed (len - len % payloadSize) len
-
-abbrev pub taken : Bool → List ℕ → List ℕ
-taken failed stream = take (usable failed (length stream)) stream
-
--- what the calls tell of a session: whether the input ended, and whether a read or a write failed
-pub record Told (s : Session) (calls : List Call) : Type 0 where
-  pub log : Log false (s .output .failed) calls
-  pub ended : some findsEnd calls ≡ s .ended
-  pub unread : some failsRead calls ≡ s .«read_failed»
-  pub stops : s .refused ≡ true → Refuses (s .sheet)
-
--- a run so far, from a sheet's state on: some calls were made, and what is left to print of the sheet of all that was
--- read is what the session has to print. An open session has read full blocks; to a closed one no payload comes.
-pub record Ran (c : CutSheet) (pend : List ℕ) (blocks : ℕ) (s : Session) (b : Lent) : Type 0 where
-  pub calls : List Call
-  pub told : Told s calls
-  pub read : isOpen s ≡ true → length (got calls) ≡ blocks * blockLength
-  pub hands : (qs : List (List ℕ)) → AllPayloads qs → (isOpen s ≡ false → qs ≡ [])
-      → Hands (sent calls) (restOf c pend (payloadsOf (taken (s .«read_failed») (got calls)) ++ qs)) (due s b qs)
-      (s .output .failed)
-
--- a block more
-abbrev pub NextRan : Session → Lent → Session → Lent → Type 0
-NextRan s was r is =
-    (c : CutSheet) (pend : List ℕ) (blocks : ℕ) → Ran c pend blocks s was → Ran c pend (suc blocks) r is
-
--- no run reads more blocks
-abbrev pub blocksMost : ℕ
-blocksMost = 2 ^ 64 - 1
-
--- as many as there are: the session is closed then, unless there were so many
-pub record Stopped (c : CutSheet) (pend : List ℕ) (s : Session) (b : Lent) : Type 0 where
-  pub blocks : ℕ
-  pub ran : Ran c pend blocks s b
-  pub most : isOpen s ≡ true → blocks ≡ blocksMost
-
-abbrev pub AllRan : Session → Lent → Session → Lent → Type 0
-AllRan s was r is = (c : CutSheet) (pend : List ℕ) → Ran c pend 0 s was → Stopped c pend r is
-
--- ---- the end
-
--- the last line is not written where a read failed
-abbrev pub kept : Bool → List ℕ → List ℕ
-kept failed last = cond failed last []
-
--- the last line goes behind the lines that are collected, and all is written; but for the output the session is as it
--- was
-pub record Last (s : Session) (text : List ℕ) (r : Session) : Type 0 where
-  pub calls : List Call
-  pub reads : some isRead calls ≡ false
-  pub log : Log (s .output .failed) (r .output .failed) calls
-  pub same : r ≡ withOutput s (r .output)
-  pub hands : s .output .failed ≡ false
-      → Hands (sent calls) (take (s .output .len) text ++ endOf (s .sheet .splitter))
-      (kept (s .«read_failed») (endOf (s .sheet .splitter))) (r .output .failed)
-
--- a run that is over, whatever the pending buffer held before it
-pub record Ended (c : CutSheet) (s : Session) : Type 0 where
-  pub pend : List ℕ
-  pub long : pendSize ≤ length pend
-  pub calls : List Call
-  pub told : Told s calls
-  pub read : isOpen s ≡ true → length (got calls) ≡ blocksMost * blockLength
-  pub hands :
-      Hands (sent calls) (restOf c pend (payloadsOf (taken (s .«read_failed») (got calls))))
-      (kept (s .«read_failed») (endOf (s .sheet .splitter))) (s .output .failed)
-
--- ---- the program
-
--- a question mark is printed
-pub record Asked (o : Output) : Type 0 where
-  pub calls : List Call
-  pub reads : some isRead calls ≡ false
-  pub log : Log false (o .failed) calls
-  pub hands : Hands (sent calls) questionLine [] (o .failed)
-
--- the sheet of a code, if there is one
-abbrev pub CodedBy : NewSheet → ℕ → Finished → Type 0
-CodedBy (NewSheet.Made c) code r = (s : Session) × (r ≡ Sheet code s) × Ended c s
-CodedBy (NewSheet.Refused g) code r = (o : Output) × (r ≡ Malformed o) × Asked o
+-- ---- what is handed back
 
 abbrev pub lineOf : Finished → FirstLine
 lineOf Unread = FirstLine.Malformed
@@ -189,6 +38,26 @@ lastLine Unread = questionLine
 lastLine (Malformed o) = questionLine
 lastLine (Sheet code s) = endOf (s .sheet .splitter)
 
+-- ---- why it is over
+
+-- a session goes on until the input ends, a push is refused, or a read or a write fails
+abbrev pub isOpen : Session → Bool
+isOpen s = not (s .ended || s .refused || s .«read_failed» || s .output .failed)
+
+-- the sheet refuses a payload, though the buffers have room for it
+pub record Refuses (c : CutSheet) : Type 0 where
+  pub payload : List ℕ
+  pub small : Payload (length payload)
+  pub buffers : Lent
+  pub pending : pendSize ≤ length (buffers .pend)
+  pub room : Roomy (length (buffers .out)) (length (buffers .rows)) (length (buffers .text))
+  pub number : ℕ
+  pub answer : step c payload buffers .answer ≡ refused number
+
+-- no run reads more blocks
+abbrev pub blocksMost : ℕ
+blocksMost = 2 ^ 64 - 1
+
 -- an input of fewer bytes is read to its end, unless something stops the sheet
 abbrev pub inputMost : ℕ
 inputMost = 2 + blocksMost * blockLength
@@ -200,9 +69,22 @@ Closed (Sheet code s) calls =
     (some findsEnd calls ≡ s .ended) × (s .refused ≡ true → Refuses (s .sheet))
     × (length (got calls) < inputMost → isOpen s ≡ false)
 
+-- ---- what is printed
+
+-- where a read failed, a payload that is not whole is left alone
+abbrev pub usable : Bool → ℕ → ℕ
+usable failed len = cond failed (len - len % payloadSize) len
+
+abbrev pub taken : Bool → List ℕ → List ℕ
+taken failed stream = take (usable failed (length stream)) stream
+
 -- what the program can print of an input: all, or the sheet of the payloads that are whole
 abbrev pub cuttable : Bool → List ℕ → List ℕ
 cuttable failed input = take 2 input ++ taken failed (drop 2 input)
+
+-- the last line is not written where a read failed
+abbrev pub kept : Bool → List ℕ → List ℕ
+kept failed last = cond failed last []
 
 -- THE CONTRACT. Some calls were made. They tell whether a read failed and whether a write did, and nothing was written
 -- after one that failed. The first line is that of all that was read. What was written is a front of what is to be

@@ -28,7 +28,8 @@ ghost use Rattle.sheet.specs.Sheet.{pendSize, payloadsOf, endOf};
 ghost use Rattle.sheet.specs.Step.{put, lent, endMost, newSheetOf};
 ghost use Rattle.cutsheet.specs.Bounds.{Bounded, Payload, Within};
 ghost use Rattle.cutsheet.specs.Step.{CutFrom};
-ghost use Rattle.cutsheet.specs.Run.{newSession, withOutput, refusing, isOpen, Cut, usable, afterRead, NextRan, AllRan, Last, Ended, Asked, CodedBy, Run};
+ghost use Rattle.cutsheet.specs.Run.{isOpen, usable, Run};
+ghost use Rattle.cutsheet.specs.Parts.{newSession, withOutput, refusing, Cut, afterRead, NextRan, AllRan, Last, Ended, Asked, CodedBy};
 
 const FIRST_LINE_LEN: usize = 2;
 

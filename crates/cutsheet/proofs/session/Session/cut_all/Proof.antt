@@ -7,7 +7,8 @@ use native.Mathlib.Omega.{arith}
 use Rattle.sheet.specs.Step.{lent}
 use Rattle.sheet.specs.declared.sheet.CutSheet.{CutSheet}
 use Rattle.cutsheet.specs.Bounds.{Bounded}
-use Rattle.cutsheet.specs.Run.{Ran, blocksMost}
+use Rattle.cutsheet.specs.Run.{blocksMost}
+use Rattle.cutsheet.specs.Parts.{Ran}
 use borrow.Author.Needs.{needs}
 use Rattle.cutsheet.proofs.session.Session.cut_all.Statement.{statement}
 use Rattle.cutsheet.proofs.session.Session.cut_all.Tie as tie

@@ -6,7 +6,8 @@ use lib.ListN.{length, take}
 use Rattle.sheet.specs.Sheet.{payloadsOf}
 use Rattle.sheet.specs.Step.{Lent, lent}
 use Rattle.cutsheet.specs.Bounds.{blockLength}
-use Rattle.cutsheet.specs.Run.{Cut, usable, Ran}
+use Rattle.cutsheet.specs.Run.{usable}
+use Rattle.cutsheet.specs.Parts.{Cut, Ran}
 use Rattle.cutsheet.specs.declared.session.Session.{Session}
 use Rattle.cutsheet.proofs.Running.{filled-most, ran-next}
 use borrow.Author.Needs.{needs}

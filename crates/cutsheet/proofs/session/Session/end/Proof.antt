@@ -6,7 +6,7 @@ use native.Mathlib.Omega.{arith}
 use Rattle.text.specs.Output.{Written}
 use Rattle.text.specs.declared.output.Output.{Output}
 use Rattle.cutsheet.specs.Bounds.{Bounded}
-use Rattle.cutsheet.specs.Run.{withOutput}
+use Rattle.cutsheet.specs.Parts.{withOutput}
 use Rattle.cutsheet.specs.declared.session.Session.{Session}
 use Rattle.cutsheet.proofs.Running.{last-kept, last-put}
 use borrow.Author.Needs.{needs}
