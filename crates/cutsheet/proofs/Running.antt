@@ -315,18 +315,34 @@ module _ (c : CutSheet) (pend : List ℕ) (long : pendSize ≤ length pend) (s r
   some-same : (is : Call → Bool) → some is (last .calls) ≡ false → some is made ≡ some is (ran .calls)
   some-same is e = some-join is (ran .calls) (last .calls) ∙ rw (e, or-false (some is (ran .calls)))
 
-  -- a write that fails closes the session
+  -- a write that failed is not forgotten
+  fine : r .output .failed ≡ false → s .output .failed ≡ false
+  fine e = go (s .output .failed) refl
+    where
+      go : (x : Bool) → s .output .failed ≡ x → s .output .failed ≡ false
+      go true q = absurd (true≢false (sym (log-failed (last .log) q) ∙ e))
+      go false q = q
+
   was-open : isOpen r ≡ true → isOpen s ≡ true
   was-open h =
       let o = open-parts r h in
       rw (sym ended-same ∙ o .ended, sym refused-same ∙ o .refused, sym unread-same ∙ o .unread, fine (o .failed))
-    where
-      fine : r .output .failed ≡ false → s .output .failed ≡ false
-      fine e = go (s .output .failed) refl
-        where
-          go : (x : Bool) → s .output .failed ≡ x → s .output .failed ≡ false
-          go true q = absurd (true≢false (sym (log-failed (last .log) q) ∙ e))
-          go false q = q
+
+  -- the sheet of all that was read
+  abbrev all : List ℕ
+  all = restOf c pend (payloadsOf (taken (s .«read_failed») (got (ran .calls))))
+
+  all-same : all ≡ restOf c pend (payloadsOf (taken (r .«read_failed») (got made)))
+  all-same =
+      sym (ap (λ (l : List ℕ). restOf c pend (payloadsOf (taken (r .«read_failed») l))) got-same
+      ∙ ap (λ (x : Bool). restOf c pend (payloadsOf (taken x (got (ran .calls))))) unread-same)
+
+  -- before the last line
+  first : Hands (sent (ran .calls)) all (take (s .output .len) (b .text) ++ endOf (s .sheet .splitter))
+      (s .output .failed)
+  first =
+      rw (due-last s b, append-nil (payloadsOf (taken (s .«read_failed») (got (ran .calls))))) at
+      (ran .hands [] tt (λ k. refl))
 
   pub ran-over : Ended c r
   ran-over =
@@ -345,21 +361,26 @@ module _ (c : CutSheet) (pend : List ℕ) (long : pendSize ≤ length pend) (s r
         hands =
             let mid = take (s .output .len) (b .text) ++ endOf (s .sheet .splitter) in
             let left = kept (s .«read_failed») (endOf (s .sheet .splitter)) in
-            let all = restOf c pend (payloadsOf (taken (s .«read_failed») (got (ran .calls)))) in
-            let first : Hands (sent (ran .calls)) all mid (s .output .failed) =
-            rw (due-last s b, append-nil (payloadsOf (taken (s .«read_failed») (got (ran .calls))))) at
-            (ran .hands [] tt (λ k. refl)) in
             let joined : Hands (sent (ran .calls) ++ sent (last .calls)) all left (r .output .failed) =
             hands-join (sent (ran .calls)) (sent (last .calls)) all mid left (s .output .failed) (r .output .failed)
             first (λ k. last .hands k)
             (λ k. (no-writes (last .calls) (last .log .quiet k), log-failed (last .log) k)) in
             hands-same (sent (ran .calls) ++ sent (last .calls)) (sent made) all _ left _ (r .output .failed)
-            (sym (sent-join (ran .calls) (last .calls)))
-            (sym (ap (λ (l : List ℕ). restOf c pend (payloadsOf (taken (r .«read_failed») l))) got-same
-            ∙ ap (λ (x : Bool). restOf c pend (payloadsOf (taken x (got (ran .calls))))) unread-same))
+            (sym (sent-join (ran .calls) (last .calls))) all-same
             (sym (ap (λ (x : Bool). kept x (endOf (r .sheet .splitter))) unread-same
             ∙ ap (λ (x : CutSheet). kept (s .«read_failed») (endOf (x .splitter))) sheet-same))
             joined;
+        last = λ f.
+            record {
+              front = sent (ran .calls) ++ take (s .output .len) (b .text);
+              whole =
+                  append-assoc (sent (ran .calls)) (take (s .output .len) (b .text)) (endOf (r .sheet .splitter))
+                  ∙ ap
+                  (λ (x : CutSheet). sent (ran .calls) ++ (take (s .output .len) (b .text) ++ endOf (x .splitter)))
+                  sheet-same
+                  ∙ first .whole (fine f)
+                  ∙ all-same;
+            };
       }
 
 -- ---- the first line
@@ -410,19 +431,17 @@ module _ (line : List ℕ) (two : length line ≡ 2) (f : Filled) (fills : Filli
       let short : length read < 2 = omega (arith, fills .short e, length-take-le (f .len) line (fills .most)) in
       let none : firstLine (got (fills .calls)) ≡ FirstLine.Malformed = ap firstLine (fills .bytes)
       ∙ sym (first-short read short) in
+      let what : printed (cuttable true (got (fills .calls))) ≡ questionLine =
+      printed-malformed (cuttable true (got (fills .calls)))
+      (ap firstLine (cuttable-short (got (fills .calls)) (rw (fills .bytes) short)) ∙ none) in
       record {
         calls = fills .calls;
         log = log-line;
         unread = fills .failed ∙ e;
         line = none;
         closed = tt;
-        hands =
-            rw (
-              no-writes (fills .calls) (fills .writes),
-              printed-malformed (cuttable true (got (fills .calls)))
-                  (ap firstLine (cuttable-short (got (fills .calls)) (rw (fills .bytes) short)) ∙ none),
-            )
-            (hands-none questionLine false);
+        hands = rw (no-writes (fills .calls) (fills .writes), what) (hands-none questionLine false);
+        last = λ g. record { front = []; whole = sym what };
       }
 
   -- it has no code
@@ -432,6 +451,8 @@ module _ (line : List ℕ) (two : length line ≡ 2) (f : Filled) (fills : Filli
       let calls = fills .calls ++ asked .calls in
       let all : got calls ≡ read = got-join (fills .calls) (asked .calls)
       ∙ rw (fills .bytes, no-reads (asked .calls) (asked .reads) .0, append-nil read) in
+      let what : printed (cuttable false (got calls)) ≡ questionLine =
+      ap printed (cuttable-all (got calls) ∙ all) ∙ printed-malformed read l in
       record {
         calls = calls;
         log = log-join (fills .calls) (asked .calls) log-line (asked .log);
@@ -440,14 +461,9 @@ module _ (line : List ℕ) (two : length line ≡ 2) (f : Filled) (fills : Filli
         line = rw all l;
         closed = tt;
         hands =
-            rw (
-              sent-join (fills .calls) (asked .calls),
-              no-writes (fills .calls) (fills .writes),
-              cuttable-all (got calls),
-              all,
-              printed-malformed read l,
-            )
+            rw (sent-join (fills .calls) (asked .calls), no-writes (fills .calls) (fills .writes), what)
             (asked .hands);
+        last = λ g. record { front = []; whole = sym what };
       }
 
   -- it has one
@@ -466,15 +482,9 @@ module _ (line : List ℕ) (two : length line ≡ 2) (f : Filled) (fills : Filli
           λ h. bounded (isOpen s) refl h,
         );
         hands =
-            rw (
-              sent-join (fills .calls) (over .calls),
-              no-writes (fills .calls) (fills .writes),
-              all,
-              cuttable-line (s .«read_failed») line stream two,
-              printed-coded code line (taken (s .«read_failed») stream) two first,
-              ← rest-sheet code (taken (s .«read_failed») stream) (over .pend) (over .long),
-            )
+            rw (sent-join (fills .calls) (over .calls), no-writes (fills .calls) (fills .writes), what)
             (over .hands);
+        last = λ g. record { front = over .last g .front; whole = over .last g .whole ∙ sym what };
       }
     where
       calls : List Call
@@ -503,6 +513,14 @@ module _ (line : List ℕ) (two : length line ≡ 2) (f : Filled) (fills : Filli
 
       all : got calls ≡ line ++ stream
       all = got-join (fills .calls) (over .calls) ∙ rw (fills .bytes, whole)
+
+      what : printed (cuttable (s .«read_failed») (got calls))
+          ≡ restOf (newSheet code) (over .pend) (payloadsOf (taken (s .«read_failed») stream))
+      what =
+          ap (λ (l : List ℕ). printed (cuttable (s .«read_failed») l)) all
+          ∙ ap printed (cuttable-line (s .«read_failed») line stream two)
+          ∙ printed-coded code line (taken (s .«read_failed») stream) two first
+          ∙ sym (rest-sheet code (taken (s .«read_failed») stream) (over .pend) (over .long))
 
       bounded : (x : Bool) → isOpen s ≡ x → length (got calls) < inputMost → isOpen s ≡ false
       bounded true h k = absurd (let no : ⊥ = omega (
@@ -541,3 +559,8 @@ run-unfinished run e f = rw e at (run .hands .whole f)
 pub run-front : {r : Finished} (run : Run r)
     → sent (run .calls) ++ run .hands .behind ≡ printed (cuttable (readFailed r) (got (run .calls)))
 run-front run = run .hands .front
+
+-- Unless a write failed, the sheet's last line is that of the session which is handed back.
+pub run-last : {r : Finished} (run : Run r) (fine : writeFailed r ≡ false)
+    → run .last fine .front ++ lastLine r ≡ printed (cuttable (readFailed r) (got (run .calls)))
+run-last run fine = run .last fine .whole

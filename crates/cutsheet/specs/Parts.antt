@@ -16,7 +16,7 @@ use Rattle.text.specs.Output.{noOutput}
 use Rattle.text.specs.declared.input.Filled.{Filled}
 use Rattle.text.specs.declared.output.Output.{Output}
 use Rattle.cutsheet.specs.Bounds.{blockLength}
-use Rattle.cutsheet.specs.Run.{isOpen, Refuses, blocksMost, taken, kept}
+use Rattle.cutsheet.specs.Run.{isOpen, Refuses, blocksMost, taken, kept, Ends}
 use Rattle.cutsheet.specs.declared.session.Finished.{Finished}
 use Rattle.cutsheet.specs.declared.session.Finished.the-variants.{Malformed, Sheet}
 use Rattle.cutsheet.specs.declared.session.Session.{Session}
@@ -47,8 +47,8 @@ due s b ps =
 
 -- ---- payloads
 
--- they are cut: of what the session has to print a front is written, and unless a write fails the rest is as long as it
--- has to be, whatever payloads come
+-- they are cut. Whatever payloads come behind them: of what the session had to print a front is written, and unless a
+-- write failed, all but what it has to print now.
 pub record Cut (s : Session) (was : Lent) (ps : List (List ℕ)) (r : Session) (is : Lent) : Type 0 where
   pub calls : List Call
   pub reads : some isRead calls ≡ false
@@ -125,6 +125,8 @@ pub record Ended (c : CutSheet) (s : Session) : Type 0 where
   pub hands :
       Hands (sent calls) (restOf c pend (payloadsOf (taken (s .«read_failed») (got calls))))
       (kept (s .«read_failed») (endOf (s .sheet .splitter))) (s .output .failed)
+  pub last : s .output .failed ≡ false
+      → Ends (endOf (s .sheet .splitter)) (restOf c pend (payloadsOf (taken (s .«read_failed») (got calls))))
 
 -- a question mark is printed
 pub record Asked (o : Output) : Type 0 where

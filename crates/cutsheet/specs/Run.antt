@@ -86,10 +86,15 @@ cuttable failed input = take 2 input ++ taken failed (drop 2 input)
 abbrev pub kept : Bool → List ℕ → List ℕ
 kept failed last = cond failed last []
 
+-- a text has this end
+pub record Ends (last text : List ℕ) : Type 0 where
+  pub front : List ℕ
+  pub whole : front ++ last ≡ text
+
 -- THE CONTRACT. Some calls were made. They tell whether a read failed and whether a write did, and nothing was written
 -- after one that failed. The first line is that of all that was read. What was written is a front of what is to be
 -- printed for all that was read; unless a write failed it is the whole; and where a read failed it is the whole but for
--- the last line, of the payloads that are whole.
+-- the last line, of the payloads that are whole. The last line is that of the session which is handed back.
 pub record Run (r : Finished) : Type 0 where
   pub calls : List Call
   pub log : Log false (writeFailed r) calls
@@ -99,3 +104,4 @@ pub record Run (r : Finished) : Type 0 where
   pub hands :
       Hands (sent calls) (printed (cuttable (readFailed r) (got calls))) (kept (readFailed r) (lastLine r))
       (writeFailed r)
+  pub last : writeFailed r ≡ false → Ends (lastLine r) (printed (cuttable (readFailed r) (got calls)))

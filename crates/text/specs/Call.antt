@@ -83,6 +83,7 @@ abbrev pub findsEnd : Call → Bool
 findsEnd (read left answer) = finds left answer
 findsEnd (write bytes answer) = false
 
+-- it is -1: the read failed
 abbrev pub below : ℤ → Bool
 below (pos n) = false
 below (negsuc n) = true
@@ -124,7 +125,8 @@ abbrev pub Orderly : List Call → Type 0
 Orderly [] = Unit {0}
 Orderly (c ∷ cs) = (failsWrite c ≡ true → some isWrite cs ≡ false) × Orderly cs
 
--- calls after which a write has failed or not, as one had before or not: then there is none
+-- these calls were made. Where a write had failed before them (was) they write nothing; and whether one has failed by
+-- now (is)
 pub record Log (was is : Bool) (calls : List Call) : Type 0 where
   pub made : AllMade calls
   pub orderly : Orderly calls
@@ -133,7 +135,7 @@ pub record Log (was is : Bool) (calls : List Call) : Type 0 where
 
 -- ---- what is handed over
 
--- of what is due, a front was sent, and unless a write failed all but the rest
+-- of what is due a front was sent, and unless a write failed, all but the rest
 pub record Hands (sent due rest : List ℕ) (failed : Bool) : Type 0 where
   pub behind : List ℕ
   pub front : sent ++ behind ≡ due
