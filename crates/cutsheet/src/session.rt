@@ -202,8 +202,8 @@ impl Session {
         self
     }
 
-    // A payload can end in a failed write or a refused push, and in nothing else that closes a session. (The program is
-    // quicker by a percent where it asks for these alone.)
+    // A payload can end in a failed write or a refused push, and in nothing else that closes a session. (Asking for
+    // these alone measured best: docs/BENCHMARKS.md.)
     fn cut_block(
         self,
         block: &[u8],
