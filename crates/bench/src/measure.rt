@@ -3,9 +3,8 @@ ghost use Rattle.std.specs.Prelude.{◌<◌, ◌≤◌, length};
 
 use crate::setup::{FirstLine, LINE_MAX, Setup, parse_setup};
 use crate::totals::Totals;
-use libc::{STDIN_FILENO, STDOUT_FILENO};
 use splitter::{AudioFrameSplitter, NewSplitter, Pts, Pushed, ROW_WIDTH};
-use text::front;
+use text::{BLOCK_LEN, Filled, Output, Sink, Source, fill, front};
 
 // The most bytes of a stream. What comes behind them is ignored.
 const STREAM_MAX: usize = 1000000;
@@ -23,44 +22,71 @@ const ROWS_LEN: usize = ROW_WIDTH * 10535;
 // So many rounds have timestamps of their own.
 const TIMES: u64 = 4_294_967_296;
 
-pub fn run() {
+/// What a run hands back: whether a read failed, and what became of the output.
+#[derive(Clone, Copy)]
+pub struct Finished {
+    pub read_failed: bool,
+    pub output: Output,
+}
+
+/// Reads all, measures, and prints. A read that fails counts as the end of the input.
+pub fn run<R: Source, W: Sink>(source: &mut R, sink: &mut W) -> Finished {
     let mut input = [0u8; INPUT_MAX];
-    let count = read_input(&mut input);
-    measure_input(&input, count);
-}
-
-fn read_input(input: &mut [u8; INPUT_MAX]) -> usize {
-    io::read_full(STDIN_FILENO, input)
-}
-
-fn measure_input(input: &[u8; INPUT_MAX], count: usize) {
-    let read = front(input, count);
-    match parse_setup(read) {
-        FirstLine::Read(setup) => measure_setup(read, setup),
-        FirstLine::Malformed => malformed(),
+    let mut block = [0u8; BLOCK_LEN];
+    let filled = read_input(source, &mut input);
+    let output = measure_input(Output::new(), sink, &mut block, &input, filled.len);
+    let output = output.flushed(sink, &block);
+    Finished {
+        read_failed: filled.failed,
+        output,
     }
 }
 
-fn malformed() {
-    io::write_all(STDOUT_FILENO, b"?\n");
+fn read_input<R: Source>(source: &mut R, input: &mut [u8; INPUT_MAX]) -> Filled {
+    fill(source, input)
+}
+
+fn measure_input<W: Sink>(
+    output: Output,
+    sink: &mut W,
+    block: &mut [u8; BLOCK_LEN],
+    input: &[u8; INPUT_MAX],
+    count: usize,
+) -> Output {
+    let read = front(input, count);
+    match parse_setup(read) {
+        FirstLine::Read(setup) => measure_setup(output, sink, block, read, setup),
+        FirstLine::Malformed => malformed(output, sink, block),
+    }
+}
+
+fn malformed<W: Sink>(output: Output, sink: &mut W, block: &mut [u8; BLOCK_LEN]) -> Output {
+    output.put_text(sink, block, b"?\n")
 }
 
 // A code that the splitter refuses is malformed too.
-fn measure_setup(input: &[u8], setup: Setup)
+fn measure_setup<W: Sink>(
+    output: Output,
+    sink: &mut W,
+    block: &mut [u8; BLOCK_LEN],
+    input: &[u8],
+    setup: Setup,
+) -> Output
     requires { (0 < setup.size) × (setup.start ≤ length input.now) }
 {
     let start = setup.start;
     let end = start + least(input.len() - start, STREAM_MAX);
     match AudioFrameSplitter::new(setup.code) {
         NewSplitter::Made(splitter) => {
-            print(measure(
+            let totals = measure(
                 &input[start..end],
                 locked(splitter),
                 setup.size,
                 setup.rounds,
-            ))
+            );
+            print(output, sink, block, totals)
         }
-        NewSplitter::Refused(_) => malformed(),
+        NewSplitter::Refused(_) => malformed(output, sink, block),
     }
 }
 
@@ -152,17 +178,28 @@ fn payload_end(at: usize, size: usize, len: usize) -> usize
     len
 }
 
-fn print(totals: Totals) {
-    io::print_decimal(STDOUT_FILENO, totals.frames);
-    print_next(totals.bytes);
-    print_next(totals.discarded);
-    print_next(totals.pending as u64);
-    print_next(totals.stamps);
-    print_next(totals.last_bytes);
-    io::write_all(STDOUT_FILENO, b"\n");
+fn print<W: Sink>(
+    output: Output,
+    sink: &mut W,
+    block: &mut [u8; BLOCK_LEN],
+    totals: Totals,
+) -> Output {
+    let after_frames = output.put_decimal(sink, block, totals.frames);
+    let after_bytes = print_next(after_frames, sink, block, totals.bytes);
+    let after_discarded = print_next(after_bytes, sink, block, totals.discarded);
+    let after_pending = print_next(after_discarded, sink, block, totals.pending as u64);
+    let after_stamps = print_next(after_pending, sink, block, totals.stamps);
+    let after_last = print_next(after_stamps, sink, block, totals.last_bytes);
+    after_last.put_text(sink, block, b"\n")
 }
 
-fn print_next(n: u64) {
-    io::write_all(STDOUT_FILENO, b" ");
-    io::print_decimal(STDOUT_FILENO, n);
+fn print_next<W: Sink>(
+    output: Output,
+    sink: &mut W,
+    block: &mut [u8; BLOCK_LEN],
+    n: u64,
+) -> Output {
+    output
+        .put_text(sink, block, b" ")
+        .put_decimal(sink, block, n)
 }

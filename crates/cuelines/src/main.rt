@@ -2,10 +2,25 @@
 // 1 or 2, and one to 32 times in ticks of 1/90000 second, a space before each; and then the stream. Standard output
 // gets for each time the line of the frame that sounds then, or a line with the word none, and behind them the sheet's
 // last line. Where a read fails it gets nothing, and standard error says so.
+#![tactic(auto)]
+
 mod found;
 mod request;
 mod session;
 
-fn main() {
-    session::run();
+use session::{report_read, report_write, run};
+use std::process::ExitCode;
+use text::{Kept, ending, is_left};
+
+fn main(rt: HostRuntime) -> ExitCode {
+    let (mut input, mut output, mut errors) = (rt.stdin(), Kept::new(rt.stdout()), rt.stderr());
+    let finished = run(&mut input, &mut output);
+    let left = is_left(finished.write_failed, output.kind());
+    if !left {
+        report_write(&mut errors, finished.write_failed);
+    }
+    if finished.read_failed {
+        report_read(&mut errors);
+    }
+    ending(finished.read_failed || finished.write_failed, left)
 }

@@ -1,4 +1,4 @@
-// A run over standard input: its first line, then the stream, payload by payload.
+// A run over what is read: its first line, then the stream, payload by payload.
 ghost use Rattle.std.specs.Prelude.{◌≡◌, ◌*◌, ◌≤◌, length};
 ghost use Rattle.sheet.specs.Run.{Roomy};
 ghost use Rattle.splitter.specs.Push.{over};
@@ -10,12 +10,11 @@ ghost use Rattle.cuelines.specs.Request.{times_most};
 
 use crate::found::{FOUND_LEN, TIMES_MAX, keep_none, keep_rows};
 use crate::request::{FIRST_LINE_MAX, FirstLine, Request, parse_request, read_first_line};
-use libc::STDOUT_FILENO;
 use sheet::{
     CutSheet, LINE_LEN, LINES_MAX, NewSheet, OUT_LEN, PAYLOAD_LEN, PENDING_LEN, ROWS_LEN,
     SheetAnswer, payload_end,
 };
-use text::{Filled, Output, fill, front, report};
+use text::{Filled, Output, Sink, Source, fill, front, report};
 
 // Eight payloads are read at a time: a read for each would cost more time than the cutting.
 const BLOCK_LEN: usize = 8 * PAYLOAD_LEN;
@@ -28,39 +27,58 @@ pub struct Session {
     pub read_failed: bool,
 }
 
-pub fn run() {
+/// What a run hands back: whether a read failed, and whether a write did.
+#[derive(Clone, Copy)]
+pub struct Finished {
+    pub read_failed: bool,
+    pub write_failed: bool,
+}
+
+/// Prints the lines for all that the source gives to the sink.
+pub fn run<R: Source, W: Sink>(source: &mut R, sink: &mut W) -> Finished {
     let mut line = [0u8; FIRST_LINE_MAX];
-    match read_first_line(&mut line) {
-        FirstLine::Closed(len) => print_asked(front(&line, len)),
-        FirstLine::Unclosed => print_malformed(),
-        FirstLine::Failed => report_read(),
+    match read_first_line(source, &mut line) {
+        FirstLine::Closed(len) => print_asked(source, sink, front(&line, len)),
+        FirstLine::Unclosed => print_malformed(sink),
+        FirstLine::Failed => unread(),
     }
 }
 
-fn print_asked(line: &[u8]) {
+fn print_asked<R: Source, W: Sink>(source: &mut R, sink: &mut W, line: &[u8]) -> Finished {
     let mut times = [0i64; TIMES_MAX];
     match parse_request(line, &mut times) {
-        Request::Cues { code, count } => print_coded(code, &times, count),
-        Request::Malformed => print_malformed(),
+        Request::Cues { code, count } => print_coded(source, sink, code, &times, count),
+        Request::Malformed => print_malformed(sink),
     }
 }
 
 // A code that the sheet refuses is malformed too.
-fn print_coded(code: u32, times: &[i64; TIMES_MAX], count: usize)
+fn print_coded<R: Source, W: Sink>(
+    source: &mut R,
+    sink: &mut W,
+    code: u32,
+    times: &[i64; TIMES_MAX],
+    count: usize,
+) -> Finished
     requires { count ≤ times_most }
 {
     match CutSheet::new(code) {
         NewSheet::Made(sheet) => {
             let all: &[i64] = times;
-            print_cues(sheet, &all[0..count]);
+            print_cues(source, sink, sheet, &all[0..count])
         }
-        NewSheet::Refused(_) => print_malformed(),
+        NewSheet::Refused(_) => print_malformed(sink),
     }
 }
 
 // A proved loop has to end, and nothing says that the input does, so the loop counts its turns down from a number that
 // no run uses up.
-fn print_cues(sheet: CutSheet, times: &[i64])
+fn print_cues<R: Source, W: Sink>(
+    source: &mut R,
+    sink: &mut W,
+    sheet: CutSheet,
+    times: &[i64],
+) -> Finished
     requires { length times.now ≤ times_most }
 {
     let mut block = [0u8; BLOCK_LEN];
@@ -78,6 +96,7 @@ fn print_cues(sheet: CutSheet, times: &[i64])
     let mut turns = u64::MAX;
     while turns > 0 && session.open {
         session = session.cut_next(
+            source,
             &mut block,
             times,
             &mut pending,
@@ -88,14 +107,15 @@ fn print_cues(sheet: CutSheet, times: &[i64])
         );
         turns -= 1;
     }
-    session.end(&found, times.len() * LINE_LEN, &mut text);
+    session.end(sink, &found, times.len() * LINE_LEN, &mut text)
 }
 
 impl Session {
     // Reads a block and cuts it, also where a read failed: then nothing is printed. A test for that before the cutting
     // would make it rare in the compiler's eyes, which then inlines less, and a line takes a third longer.
-    fn cut_next(
+    fn cut_next<R: Source>(
         self,
+        source: &mut R,
         block: &mut [u8],
         times: &[i64],
         pending: &mut [u8],
@@ -111,7 +131,7 @@ impl Session {
             block.new result.read_failed
             (hearing result (lent pending.new out.new rows.new text.new) (slots (length times.now) found.new)) }
     {
-        let filled = fill(block);
+        let filled = fill(source, block);
         let len = filled.len;
         let bytes: &[u8] = block;
         let session = self.cut_block(&bytes[0..len], times, pending, out, rows, text, found);
@@ -191,22 +211,24 @@ impl Session {
     }
 
     // The found lines, and the sheet's last line. Nothing, where a read failed: a later frame may sound at a time.
-    fn end(self, found: &[u8], len: usize, text: &mut [u8])
+    fn end<W: Sink>(self, sink: &mut W, found: &[u8], len: usize, text: &mut [u8]) -> Finished
         requires { end_most ≤ length text.old }
     {
         if self.read_failed {
-            report_read();
-            return;
+            return unread();
         }
         let lines = Output { len, failed: false };
-        let written = lines.written(found);
+        let written = lines.written(sink, found);
         let sheet = self.sheet;
         let last = Output {
             len: put_end(sheet, text),
             failed: written.failed,
         };
-        let whole = last.written(text);
-        report(whole.failed, b"cuelines: cannot write\n");
+        let whole = last.written(sink, text);
+        Finished {
+            read_failed: false,
+            write_failed: whole.failed,
+        }
     }
 }
 
@@ -222,13 +244,29 @@ fn put_end(sheet: CutSheet, text: &mut [u8]) -> usize
     }
 }
 
-fn print_malformed() {
-    report(
-        !io::write_all(STDOUT_FILENO, b"?\n"),
-        b"cuelines: cannot write\n",
-    );
+fn print_malformed<W: Sink>(sink: &mut W) -> Finished {
+    let question = Output {
+        len: 2,
+        failed: false,
+    };
+    let written = question.written(sink, b"?\n");
+    Finished {
+        read_failed: false,
+        write_failed: written.failed,
+    }
 }
 
-fn report_read() {
-    report(true, b"cuelines: cannot read\n");
+fn unread() -> Finished {
+    Finished {
+        read_failed: true,
+        write_failed: false,
+    }
+}
+
+pub fn report_write<W: Sink>(errors: &mut W, failed: bool) {
+    report(errors, failed, b"cuelines: cannot write\n");
+}
+
+pub fn report_read<W: Sink>(errors: &mut W) {
+    report(errors, true, b"cuelines: cannot read\n");
 }

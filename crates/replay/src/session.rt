@@ -1,25 +1,32 @@
-// A run over standard input, which comes in pieces that end anywhere: a line is collected up to its line feed, and then
+// A run over what is read, which comes in pieces that end anywhere: a line is collected up to its line feed, and then
 // answered.
 use crate::answer::Replay;
 use crate::buffers::{OUT_LEN, PENDING_LEN, ROWS_LEN, fill_out, fill_rows};
 use crate::octets::PAYLOAD_MAX;
-use libc::STDIN_FILENO;
-use text::{BLOCK_LEN, Line, Output, report};
+use text::{BLOCK_LEN, Line, Output, Sink, Source, report};
 
 // How many bytes of a line are kept: enough for the longest payload in one word. A longer line is malformed.
 const LINE_MAX: usize = 140000;
 
-#[derive(Drop)]
+#[derive(Clone, Copy)]
 pub struct Session {
     pub line: Line,
     pub replay: Replay,
     // Whether to go on reading.
     pub open: bool,
+    pub read_failed: bool,
 }
 
-// Answers all of standard input. A proved loop has to end, and nothing says that the input does, so the loop counts its
-// turns down from a number that no run uses up.
-pub fn run() {
+/// What a run hands back: whether a read failed, and what became of the output.
+#[derive(Clone, Copy)]
+pub struct Finished {
+    pub read_failed: bool,
+    pub output: Output,
+}
+
+/// Answers all that the source gives, and says where a read failed. A proved loop has to end, and nothing says that the
+/// input does, so the loop counts its turns down from a number that no run uses up.
+pub fn run<R: Source, W: Sink, E: Sink>(source: &mut R, sink: &mut W, errors: &mut E) -> Finished {
     let mut text = [0u8; LINE_MAX];
     let mut block = [0u8; BLOCK_LEN];
     let mut payload = [0u8; PAYLOAD_MAX];
@@ -32,7 +39,9 @@ pub fn run() {
     let mut turns = u64::MAX;
     while turns > 0 && session.open {
         session = session.read_some(
+            source,
             &mut text,
+            sink,
             &mut block,
             &mut payload,
             &mut pending,
@@ -41,19 +50,26 @@ pub fn run() {
         );
         turns -= 1;
     }
+    let read_failed = session.read_failed;
+    report(errors, read_failed, b"replay: cannot read\n");
     let output = session.finish(
         &text,
+        sink,
         &mut block,
         &mut payload,
         &mut pending,
         &mut out,
         &mut rows,
     );
-    report_write(output.flushed(&block));
+    let output = output.flushed(sink, &block);
+    Finished {
+        read_failed,
+        output,
+    }
 }
 
-fn report_write(output: Output) {
-    report(output.failed, b"replay: cannot write\n");
+pub fn report_write<W: Sink>(errors: &mut W, output: Output) {
+    report(errors, output.failed, b"replay: cannot write\n");
 }
 
 impl Session {
@@ -62,13 +78,16 @@ impl Session {
             line: Line::new(),
             replay: Replay::new(),
             open: true,
+            read_failed: false,
         }
     }
 
-    // Reads once and takes what came. A read that fails is told, and counts as the end of the input.
-    fn read_some(
+    // Reads once and takes what came. A read that fails counts as the end of the input.
+    fn read_some<R: Source, W: Sink>(
         self,
+        source: &mut R,
         text: &mut [u8; LINE_MAX],
+        sink: &mut W,
         block: &mut [u8; BLOCK_LEN],
         payload: &mut [u8; PAYLOAD_MAX],
         pending: &mut [u8; PENDING_LEN],
@@ -76,25 +95,25 @@ impl Session {
         rows: &mut [i64; ROWS_LEN],
     ) -> Self {
         let mut input = io::large_buffer();
-        let got = libc::read(STDIN_FILENO, &mut input);
-        report(got < 0, b"replay: cannot read\n");
-        if got <= 0 {
-            return self.closed();
+        match source.take(&mut input) {
+            Ok(0) => self.closed(false),
+            Ok(n) => self.feed(&input[..n], text, sink, block, payload, pending, out, rows),
+            Err(_) => self.closed(true),
         }
-        let n = io::count(got, &input);
-        self.feed(&input[..n], text, block, payload, pending, out, rows)
     }
 
-    fn closed(mut self) -> Self {
+    fn closed(mut self, read_failed: bool) -> Self {
         self.open = false;
+        self.read_failed = read_failed;
         self
     }
 
     // The line and the rest are apart here, so that a byte of a line moves nothing but its count.
-    fn feed(
+    fn feed<W: Sink>(
         self,
         bytes: &[u8],
         text: &mut [u8; LINE_MAX],
+        sink: &mut W,
         block: &mut [u8; BLOCK_LEN],
         payload: &mut [u8; PAYLOAD_MAX],
         pending: &mut [u8; PENDING_LEN],
@@ -109,7 +128,7 @@ impl Session {
                 line = line.push(text, byte);
                 continue;
             }
-            replay = end_line(replay, line, text, block, payload, pending, out, rows);
+            replay = end_line(replay, line, text, sink, block, payload, pending, out, rows);
             line = Line::new();
         }
         let output = replay.output;
@@ -117,13 +136,15 @@ impl Session {
             line,
             replay,
             open: !output.failed,
+            read_failed: false,
         }
     }
 
     // A last line that no line feed closes counts too, unless it is empty.
-    fn finish(
+    fn finish<W: Sink>(
         self,
         text: &[u8; LINE_MAX],
+        sink: &mut W,
         block: &mut [u8; BLOCK_LEN],
         payload: &mut [u8; PAYLOAD_MAX],
         pending: &mut [u8; PENDING_LEN],
@@ -133,16 +154,19 @@ impl Session {
         let line = self.line;
         let replay = self.replay;
         if line.len == 0 {
-            return replay.end(block, out, rows);
+            return replay.end(sink, block, out, rows);
         }
-        end_line(replay, line, text, block, payload, pending, out, rows).end(block, out, rows)
+        end_line(replay, line, text, sink, block, payload, pending, out, rows).end(
+            sink, block, out, rows,
+        )
     }
 }
 
-fn end_line(
+fn end_line<W: Sink>(
     replay: Replay,
     line: Line,
     text: &[u8; LINE_MAX],
+    sink: &mut W,
     block: &mut [u8; BLOCK_LEN],
     payload: &mut [u8; PAYLOAD_MAX],
     pending: &mut [u8; PENDING_LEN],
@@ -150,7 +174,7 @@ fn end_line(
     rows: &mut [i64; ROWS_LEN],
 ) -> Replay {
     if line.too_long {
-        return replay.malformed(block);
+        return replay.malformed(sink, block);
     }
-    replay.answer(block, line.bytes(text), payload, pending, out, rows)
+    replay.answer(sink, block, line.bytes(text), payload, pending, out, rows)
 }

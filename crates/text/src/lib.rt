@@ -1,7 +1,11 @@
 // Text as the programs read and write it: numbers, bytes as hexadecimal digits, lines, input that comes in pieces, and
 // output that is collected in a block.
+#![tactic(auto)]
+
 mod call;
+mod exit;
 mod input;
+mod kept;
 mod line;
 mod number;
 mod octet;
@@ -9,7 +13,10 @@ mod output;
 mod part;
 mod signed;
 
+pub use call::{Sink, Source};
+pub use exit::{ending, is_left};
 pub use input::{Filled, fill};
+pub use kept::Kept;
 pub use line::Line;
 pub use number::{
     Number, Place, Short, number_after, parse_number, parse_short, short_after, skip,

@@ -5,14 +5,13 @@ ghost use Rattle.std.specs.Prelude.{◌≡◌, ◌∷◌, [], ◌+◌, ◌≤◌
 ghost use Rattle.numbers.specs.Decimal.{decimal, right};
 ghost use Rattle.text.specs.Output.{block_length, no_output, Put, Written, WroteAll};
 
-use crate::call::write_at;
+use crate::call::{Sink, write_at};
 use crate::part::front;
-use libc::STDERR_FILENO;
 use numbers::{padding, places};
 
 pub const BLOCK_LEN: usize = 8192;
 
-#[derive(Drop)]
+#[derive(Clone, Copy)]
 pub struct Output {
     // How many bytes at the start of the block are still to be written.
     pub len: usize,
@@ -31,7 +30,7 @@ impl Output {
     }
 
     // A block that is full is written first.
-    pub fn put_byte(self, block: &mut [u8; BLOCK_LEN], byte: u8) -> Self
+    pub fn put_byte<W: Sink>(self, sink: &mut W, block: &mut [u8; BLOCK_LEN], byte: u8) -> Self
         ensures { Put (byte ∷ []) self result block.old block.new }
     {
         let len = self.len;
@@ -42,7 +41,7 @@ impl Output {
                 failed: self.failed,
             };
         }
-        let written = self.flushed(block);
+        let written = self.flushed(sink, block);
         block[0] = byte;
         Output {
             len: 1,
@@ -51,15 +50,15 @@ impl Output {
     }
 
     // A text for which the block has room is copied in one run.
-    pub fn put_text(self, block: &mut [u8; BLOCK_LEN], text: &[u8]) -> Self
+    pub fn put_text<W: Sink>(self, sink: &mut W, block: &mut [u8; BLOCK_LEN], text: &[u8]) -> Self
         ensures { Put text.now self result block.old block.new }
     {
         let len = self.len;
         if len >= BLOCK_LEN {
-            return self.put_each(block, text);
+            return self.put_each(sink, block, text);
         }
         if text.len() > BLOCK_LEN - len {
-            return self.put_each(block, text);
+            return self.put_each(sink, block, text);
         }
         self.put_run(block, text)
     }
@@ -78,51 +77,58 @@ impl Output {
         }
     }
 
-    fn put_each(self, block: &mut [u8; BLOCK_LEN], text: &[u8]) -> Self
+    fn put_each<W: Sink>(self, sink: &mut W, block: &mut [u8; BLOCK_LEN], text: &[u8]) -> Self
         ensures { Put text.now self result block.old block.new }
     {
         let mut out = self;
         for i in 0..text.len() {
-            out = out.put_byte(block, text[i]);
+            out = out.put_byte(sink, block, text[i]);
         }
         out
     }
 
-    pub fn put_decimal(self, block: &mut [u8; BLOCK_LEN], n: u64) -> Self
+    pub fn put_decimal<W: Sink>(self, sink: &mut W, block: &mut [u8; BLOCK_LEN], n: u64) -> Self
         ensures { Put (decimal n) self result block.old block.new }
     {
         let mut digits = [0u8; 20];
         let count = io::decimal(n, &mut digits);
-        self.put_text(block, &digits[..count])
+        self.put_text(sink, block, &digits[..count])
     }
 
     // A decimal, right-justified.
-    pub fn put_right(self, block: &mut [u8; BLOCK_LEN], width: usize, n: u64) -> Self
+    pub fn put_right<W: Sink>(
+        self,
+        sink: &mut W,
+        block: &mut [u8; BLOCK_LEN],
+        width: usize,
+        n: u64,
+    ) -> Self
         ensures { Put (right width (decimal n)) self result block.old block.new }
     {
         let count = padding(width, places(n));
-        self.put_spaces(block, count).put_decimal(block, n)
+        self.put_spaces(sink, block, count)
+            .put_decimal(sink, block, n)
     }
 
-    fn put_spaces(self, block: &mut [u8; BLOCK_LEN], count: usize) -> Self
+    fn put_spaces<W: Sink>(self, sink: &mut W, block: &mut [u8; BLOCK_LEN], count: usize) -> Self
         ensures { Put (replicate count 32) self result block.old block.new }
     {
         let mut out = self;
         for _ in 0..count {
-            out = out.put_byte(block, b' ');
+            out = out.put_byte(sink, block, b' ');
         }
         out
     }
 
-    pub fn flushed(self, block: &[u8; BLOCK_LEN]) -> Self
-        ensures { Written self result block.now }
+    pub fn flushed<W: Sink>(self, sink: &mut W, block: &[u8; BLOCK_LEN]) -> Self
+        ensures { Written W.writes sink.old sink.new self result block.now }
     {
-        self.written(block)
+        self.written(sink, block)
     }
 
     // Writes a block of any length as far as it is filled, unless a write failed before.
-    pub fn written(self, block: &[u8]) -> Self
-        ensures { Written self result block.now }
+    pub fn written<W: Sink>(self, sink: &mut W, block: &[u8]) -> Self
+        ensures { Written W.writes sink.old sink.new self result block.now }
     {
         if self.failed {
             return Output {
@@ -130,7 +136,7 @@ impl Output {
                 failed: true,
             };
         }
-        let written = write_all(front(block, self.len));
+        let written = write_all(sink, front(block, self.len));
         Output {
             len: 0,
             failed: !written,
@@ -138,24 +144,24 @@ impl Output {
     }
 }
 
-// Writes a text to standard output, in as many calls as it takes. A call that fails or takes nothing is the last one.
-fn write_all(text: &[u8]) -> bool
-    ensures { WroteAll text.now result }
+// Writes a text, in as many calls as it takes. A call that fails or takes nothing is the last one.
+fn write_all<W: Sink>(sink: &mut W, text: &[u8]) -> bool
+    ensures { WroteAll W.writes sink.old sink.new text.now result }
 {
     let mut at = 0;
     while at < text.len() {
-        let count = io::count(write_at(text, at), &text[at..]);
-        if count == 0 {
-            return false;
+        match write_at(sink, text, at) {
+            Ok(0) => return false,
+            Ok(count) => at += count,
+            Err(_) => return false,
         }
-        at += count;
     }
     true
 }
 
-// Says a message on standard error where a read or a write failed: a program of this language has no exit status.
-pub fn report(failed: bool, message: &[u8]) {
+// Says a message, on standard error, where a read or a write failed. That this write fails too is not told to anyone.
+pub fn report<W: Sink>(errors: &mut W, failed: bool, message: &[u8]) {
     if failed {
-        io::write_all(STDERR_FILENO, message);
+        write_all(errors, message);
     }
 }
