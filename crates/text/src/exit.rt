@@ -5,7 +5,7 @@ use std::process::ExitCode;
 // That of a program that SIGPIPE ends.
 const NOBODY_READS: u8 = 141;
 
-/// Whether a write failed since nobody reads the output any more, by the kind of its error. A program says nothing then.
+/// Whether a write failed since nobody reads the output any more, by the kind of its error. A program says nothing of it.
 pub fn is_left(write_failed: bool, kind: Option<ErrorKind>) -> bool {
     write_failed && kind == Some(ErrorKind::BrokenPipe)
 }
