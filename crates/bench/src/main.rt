@@ -8,12 +8,12 @@ mod totals;
 
 use measure::run;
 use std::process::ExitCode;
-use text::{Kept, ending, is_left};
+use text::{Kept, Output, ending, is_left};
 
 // It says nothing of a read or a write that failed: its status tells.
 fn main(rt: HostRuntime) -> ExitCode {
-    let (mut input, mut output) = (rt.stdin(), Kept::new(rt.stdout()));
-    let finished = run(&mut input, &mut output);
-    let left = is_left(finished.output.failed, output.kind());
-    ending(finished.read_failed || finished.output.failed, left)
+    let (mut input, mut output) = (rt.stdin(), Output::new(Kept::new(rt.stdout())));
+    let read_failed = run(&mut input, &mut output);
+    let left = is_left(output.failed, output.sink.kind());
+    ending(read_failed || output.failed, left)
 }

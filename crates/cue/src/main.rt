@@ -4,18 +4,30 @@
 
 mod answer;
 mod request;
-mod session;
 
-use session::{report_write, run};
+use answer::Cues;
 use std::process::ExitCode;
-use text::{Kept, ending, is_left};
+use text::{Kept, Line, Output, answer_lines, ending, is_left, report};
+
+// How many bytes of a line are kept. No well formed line without leading zeros has more than 2708.
+const LINE_MAX: usize = 4096;
 
 fn main(rt: HostRuntime) -> ExitCode {
-    let (mut input, mut output, mut errors) = (rt.stdin(), Kept::new(rt.stdout()), rt.stderr());
-    let finished = run(&mut input, &mut output, &mut errors);
-    let left = is_left(finished.output.failed, output.kind());
-    if !left {
-        report_write(&mut errors, finished.output);
-    }
-    ending(finished.read_failed || finished.output.failed, left)
+    let (mut input, mut errors) = (rt.stdin(), rt.stderr());
+    let mut output = Output::new(Kept::new(rt.stdout()));
+    let mut line: Line<LINE_MAX> = Line::new();
+    let message = b"cue: cannot read\n";
+    let read_failed = answer_lines(
+        &mut input,
+        &mut line,
+        &mut Cues,
+        &mut output,
+        &mut errors,
+        message,
+    );
+    output.flush();
+    let failed = output.failed();
+    let left = is_left(failed, output.sink.kind());
+    report(&mut errors, failed && !left, b"cue: cannot write\n");
+    ending(read_failed || failed, left)
 }

@@ -8,19 +8,22 @@ mod found;
 mod request;
 mod session;
 
-use session::{report_read, report_write, run};
+use session::{Failure, report_read, report_write, run};
 use std::process::ExitCode;
-use text::{Kept, ending, is_left};
+use text::{Kept, Output, ending, is_left};
 
 fn main(rt: HostRuntime) -> ExitCode {
-    let (mut input, mut output, mut errors) = (rt.stdin(), Kept::new(rt.stdout()), rt.stderr());
-    let finished = run(&mut input, &mut output);
-    let left = is_left(finished.write_failed, output.kind());
+    let (mut input, mut output, mut errors) = (
+        rt.stdin(),
+        Output::new(Kept::new(rt.stdout())),
+        rt.stderr(),
+    );
+    let ended = run(&mut input, &mut output);
+    let write_failed = matches!(ended, Err(Failure::Write));
+    let left = is_left(write_failed, output.sink.kind());
     if !left {
-        report_write(&mut errors, finished.write_failed);
+        report_write(&mut errors, write_failed);
+        report_read(&mut errors, matches!(ended, Err(Failure::Read)));
     }
-    if finished.read_failed {
-        report_read(&mut errors);
-    }
-    ending(finished.read_failed || finished.write_failed, left)
+    ending(ended.is_err(), left)
 }

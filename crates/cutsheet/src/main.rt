@@ -7,16 +7,18 @@ mod buffers;
 mod output;
 mod session;
 
+use buffers::TEXT_LEN;
 use output::{report_read, report_write};
 use session::run;
 use std::process::ExitCode;
-use text::{Kept, ending, is_left};
+use text::{Kept, Output, ending, is_left};
 
 fn main(rt: HostRuntime) -> ExitCode {
-    let (mut input, mut sheet, mut errors) = (rt.stdin(), Kept::new(rt.stdout()), rt.stderr());
+    let (mut input, mut errors) = (rt.stdin(), rt.stderr());
+    let mut sheet: Output<_, TEXT_LEN> = Output::new(Kept::new(rt.stdout()));
     let finished = run(&mut input, &mut sheet);
     let (read_failed, write_failed) = (finished.read_failed(), finished.write_failed());
-    let left = is_left(write_failed, sheet.kind());
+    let left = is_left(write_failed, sheet.sink.kind());
     if !left {
         report_write(&mut errors, write_failed);
         report_read(&mut errors, read_failed);

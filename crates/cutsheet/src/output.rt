@@ -1,23 +1,21 @@
-// Lines, collected in a lent text and written in large pieces.
-ghost use Rattle.std.specs.Prelude.{◌+◌, ◌≤◌};
+// Lines, collected in a block and written in large pieces.
+ghost use Rattle.std.specs.Prelude.{◌≡◌, ◌+◌, ◌≤◌};
 ghost use Rattle.sheet.specs.Step.{text_size};
-ghost use Rattle.text.specs.Output.{Handed};
-ghost use Rattle.cutsheet.specs.Bounds.{Bounded, text_length};
+ghost use Rattle.text.specs.Output.{Handed, collected};
+ghost use Rattle.cutsheet.specs.Bounds.{text_length};
 
 use crate::buffers::TEXT_LEN;
 use sheet::LINES_MAX;
 use text::{Output, Sink, report};
 
 // Makes room for the lines of a payload.
-pub fn with_room<W: Sink>(sink: &mut W, output: Output, text: &[u8; TEXT_LEN]) -> Output
-    requires { Bounded output }
-    ensures text_size_bound { result.len + text_size ≤ text_length }
-    ensures handed { Handed W.writes sink.old sink.new output result text.now }
+pub fn make_room<W: Sink>(output: &mut Output<W, TEXT_LEN>)
+    ensures text_size_bound { output.new.len + text_size ≤ text_length }
+    ensures block { output.new.block ≡ output.old.block }
+    ensures handed { Handed W.writes output.old.sink output.new.sink output.old.failed output.new.failed
+        (collected output.old) (collected output.new) }
 {
-    if TEXT_LEN - output.len < LINES_MAX {
-        return output.written(sink, text);
-    }
-    output
+    output.make_room(LINES_MAX);
 }
 
 pub fn report_write<W: Sink>(errors: &mut W, failed: bool) {

@@ -4,20 +4,33 @@
 
 mod answer;
 mod request;
-mod session;
 mod tape;
+mod word;
 mod writing;
 
-use session::{report_write, run};
+use answer::Answers;
 use std::process::ExitCode;
-use text::{Kept, ending, is_left};
+use text::{Kept, Line, Output, answer_lines, ending, is_left, report};
+
+// How many bytes of a line are kept. No well formed line has more than 396.
+const LINE_MAX: usize = 512;
 
 fn main(rt: HostRuntime) -> ExitCode {
-    let (mut input, mut output, mut errors) = (rt.stdin(), Kept::new(rt.stdout()), rt.stderr());
-    let finished = run(&mut input, &mut output, &mut errors);
-    let left = is_left(finished.output.failed, output.kind());
-    if !left {
-        report_write(&mut errors, finished.output);
-    }
-    ending(finished.read_failed || finished.output.failed, left)
+    let (mut input, mut errors) = (rt.stdin(), rt.stderr());
+    let mut output = Output::new(Kept::new(rt.stdout()));
+    let mut line: Line<LINE_MAX> = Line::new();
+    let message = b"head: cannot read\n";
+    let read_failed = answer_lines(
+        &mut input,
+        &mut line,
+        &mut Answers,
+        &mut output,
+        &mut errors,
+        message,
+    );
+    output.flush();
+    let failed = output.failed();
+    let left = is_left(failed, output.sink.kind());
+    report(&mut errors, failed && !left, b"head: cannot write\n");
+    ending(read_failed || failed, left)
 }

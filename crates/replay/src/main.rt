@@ -2,27 +2,22 @@
 // the state that it handed back, what it wrote, and whether it left everything else as it was.
 #![tactic(auto)]
 
-mod answer;
 mod buffers;
-mod number;
-mod octets;
-mod outcome;
+mod payload;
 mod print;
+mod replay;
 mod request;
-mod rest;
-mod session;
-mod state;
+mod words;
 
-use session::{report_write, run};
+use replay::{report_write, run};
 use std::process::ExitCode;
-use text::{Kept, ending, is_left};
+use text::{Kept, Output, ending, is_left};
 
 fn main(rt: HostRuntime) -> ExitCode {
-    let (mut input, mut output, mut errors) = (rt.stdin(), Kept::new(rt.stdout()), rt.stderr());
-    let finished = run(&mut input, &mut output, &mut errors);
-    let left = is_left(finished.output.failed, output.kind());
-    if !left {
-        report_write(&mut errors, finished.output);
-    }
-    ending(finished.read_failed || finished.output.failed, left)
+    let (mut input, mut errors) = (rt.stdin(), rt.stderr());
+    let mut output = Output::new(Kept::new(rt.stdout()));
+    let read_failed = run(&mut input, &mut output, &mut errors);
+    let left = is_left(output.failed, output.sink.kind());
+    report_write(&mut errors, output.failed && !left);
+    ending(read_failed || output.failed, left)
 }

@@ -11,6 +11,7 @@ mod number;
 mod octet;
 mod output;
 mod part;
+mod reading;
 mod signed;
 
 pub use call::{Sink, Source};
@@ -18,10 +19,9 @@ pub use exit::{ending, is_left};
 pub use input::{Filled, fill};
 pub use kept::Kept;
 pub use line::Line;
-pub use number::{
-    Number, Place, Short, number_after, parse_number, parse_short, short_after, skip,
-};
-pub use octet::{Octet, high_digit, low_digit, octet_at};
+pub use number::{Parsed, number_after, parse_number, parse_short, short_after, skip};
+pub use octet::{high_digit, low_digit, octet_at};
 pub use output::{BLOCK_LEN, Output, report};
 pub use part::{front, same};
-pub use signed::{Signed, parse_signed, signed_after};
+pub use reading::{Answering, answer_lines};
+pub use signed::{parse_signed, signed_after};

@@ -1,150 +1,137 @@
-// Output, collected in a lent block and written in one piece: a write for each byte would cost more than what the
-// programs do between. Bytes are put into a block of one length; a program that fills a block of another length by
-// itself has it written by `written`.
-ghost use Rattle.std.specs.Prelude.{◌≡◌, ◌∷◌, [], ◌+◌, ◌≤◌, length, replicate};
-ghost use Rattle.numbers.specs.Decimal.{decimal, right};
-ghost use Rattle.text.specs.Output.{block_length, no_output, Put, Written, WroteAll};
+// Output, collected in a block and written in one piece: a write for each byte would cost more than what the programs
+// do between.
+ghost use Rattle.std.specs.Prelude.{◌<◌, ◌≤◌};
+ghost use Rattle.text.specs.Call.{Reported, WroteAll};
 
 use crate::call::{Sink, write_at};
 use crate::part::front;
 use numbers::{padding, places};
 
+/// How long a block is, in bytes, that no program has its own length for.
 pub const BLOCK_LEN: usize = 8192;
 
-#[derive(Clone, Copy)]
-pub struct Output {
-    // How many bytes at the start of the block are still to be written.
+/// A sink, and the bytes that are still to be written to it.
+#[derive(Drop)]
+pub struct Output<W, const N: usize> {
+    pub sink: W,
+    pub block: [u8; N],
+    /// How many bytes at the start of the block are still to be written.
     pub len: usize,
-    // Set once a write fails. Nothing is written from then on, since it would stand in the wrong place.
+    /// Set once a write fails. Nothing is written from then on, since it would stand in the wrong place.
     pub failed: bool,
+    ghost within: { (0 < N) × (len ≤ N) },
 }
 
-impl Output {
-    pub fn new() -> Self
-        ensures { result ≡ no_output }
+impl<W: Sink, const N: usize> Output<W, N> {
+    ghost use Rattle.std.specs.Prelude.{◌≡◌, ◌∷◌, [], ◌+◌, ◌≤◌, ◌<◌, length, replicate};
+    ghost use Rattle.numbers.specs.Decimal.{decimal, right};
+    ghost use Rattle.text.specs.Output.{IsNew, MadeRoom, Put, Written};
+
+    /// With nothing collected yet.
+    pub fn new(sink: W) -> Self
+        requires { 0 < N }
+        ensures { IsNew sink result }
     {
         Output {
+            sink,
+            block: [0; N],
             len: 0,
             failed: false,
         }
     }
 
-    // A block that is full is written first.
-    pub fn put_byte<W: Sink>(self, sink: &mut W, block: &mut [u8; BLOCK_LEN], byte: u8) -> Self
-        ensures { Put (byte ∷ []) self result block.old block.new }
+    /// Whether a write has failed.
+    pub fn failed(&self) -> bool
+        ensures { result ≡ self.now.failed }
     {
-        let len = self.len;
-        if len < BLOCK_LEN {
-            block[len] = byte;
-            return Output {
-                len: len + 1,
-                failed: self.failed,
-            };
-        }
-        let written = self.flushed(sink, block);
-        block[0] = byte;
-        Output {
-            len: 1,
-            failed: written.failed,
+        self.failed
+    }
+
+    /// Makes room for so many bytes behind those that are collected: where the block has less, it is written.
+    pub fn make_room(&mut self, count: usize)
+        ensures { MadeRoom W.writes count self.old self.new }
+    {
+        if N - self.len < count {
+            self.flush();
         }
     }
 
-    // A text for which the block has room is copied in one run.
-    pub fn put_text<W: Sink>(self, sink: &mut W, block: &mut [u8; BLOCK_LEN], text: &[u8]) -> Self
-        ensures { Put text.now self result block.old block.new }
+    /// Puts a byte behind the others. A block that is full is written first.
+    pub fn put_byte(&mut self, byte: u8)
+        ensures { Put W.writes (byte ∷ []) self.old self.new }
     {
-        let len = self.len;
-        if len >= BLOCK_LEN {
-            return self.put_each(sink, block, text);
-        }
-        if text.len() > BLOCK_LEN - len {
-            return self.put_each(sink, block, text);
-        }
-        self.put_run(block, text)
+        self.make_room(1);
+        self.block[self.len] = byte;
+        self.len += 1;
     }
 
-    fn put_run(self, block: &mut [u8; BLOCK_LEN], text: &[u8]) -> Self
-        requires { self.len + length text.now ≤ block_length }
-        ensures { Put text.now self result block.old block.new }
+    /// Puts a text. One for which the block has room is copied in one run.
+    pub fn put_text(&mut self, text: &[u8])
+        ensures { Put W.writes text.now self.old self.new }
     {
-        let len = self.len;
-        for i in 0..text.len() {
-            block[len + i] = text[i];
-        }
-        Output {
-            len: len + text.len(),
-            failed: self.failed,
+        if text.len() <= N - self.len {
+            self.put_run(text);
+        } else {
+            self.put_each(text);
         }
     }
 
-    fn put_each<W: Sink>(self, sink: &mut W, block: &mut [u8; BLOCK_LEN], text: &[u8]) -> Self
-        ensures { Put text.now self result block.old block.new }
+    fn put_run(&mut self, text: &[u8])
+        requires { self.old.len + length text.now ≤ N }
+        ensures { Put W.writes text.now self.old self.new }
     {
-        let mut out = self;
-        for i in 0..text.len() {
-            out = out.put_byte(sink, block, text[i]);
-        }
-        out
+        let end = self.len + text.len();
+        let block: &mut [u8] = &mut self.block;
+        block[self.len..end].copy_from_slice(text);
+        self.len = end;
     }
 
-    pub fn put_decimal<W: Sink>(self, sink: &mut W, block: &mut [u8; BLOCK_LEN], n: u64) -> Self
-        ensures { Put (decimal n) self result block.old block.new }
+    fn put_each(&mut self, text: &[u8])
+        ensures { Put W.writes text.now self.old self.new }
+    {
+        for byte in text {
+            self.put_byte(*byte);
+        }
+    }
+
+    /// Puts a number in decimal.
+    pub fn put_decimal(&mut self, n: u64)
+        ensures { Put W.writes (decimal n) self.old self.new }
     {
         let mut digits = [0u8; 20];
         let count = io::decimal(n, &mut digits);
-        self.put_text(sink, block, &digits[..count])
+        self.put_text(&digits[..count]);
     }
 
-    // A decimal, right-justified.
-    pub fn put_right<W: Sink>(
-        self,
-        sink: &mut W,
-        block: &mut [u8; BLOCK_LEN],
-        width: usize,
-        n: u64,
-    ) -> Self
-        ensures { Put (right width (decimal n)) self result block.old block.new }
+    /// Puts a number in decimal, right-justified in `width` columns.
+    pub fn put_right(&mut self, width: usize, n: u64)
+        ensures { Put W.writes (right width (decimal n)) self.old self.new }
     {
-        let count = padding(width, places(n));
-        self.put_spaces(sink, block, count)
-            .put_decimal(sink, block, n)
+        self.put_spaces(padding(width, places(n)));
+        self.put_decimal(n);
     }
 
-    fn put_spaces<W: Sink>(self, sink: &mut W, block: &mut [u8; BLOCK_LEN], count: usize) -> Self
-        ensures { Put (replicate count 32) self result block.old block.new }
+    fn put_spaces(&mut self, count: usize)
+        ensures { Put W.writes (replicate count 32) self.old self.new }
     {
-        let mut out = self;
         for _ in 0..count {
-            out = out.put_byte(sink, block, b' ');
+            self.put_byte(b' ');
         }
-        out
     }
 
-    pub fn flushed<W: Sink>(self, sink: &mut W, block: &[u8; BLOCK_LEN]) -> Self
-        ensures { Written W.writes sink.old sink.new self result block.now }
+    /// Writes the block as far as it is filled, unless a write failed before.
+    pub fn flush(&mut self)
+        ensures { Written W.writes self.old self.new }
     {
-        self.written(sink, block)
-    }
-
-    // Writes a block of any length as far as it is filled, unless a write failed before.
-    pub fn written<W: Sink>(self, sink: &mut W, block: &[u8]) -> Self
-        ensures { Written W.writes sink.old sink.new self result block.now }
-    {
-        if self.failed {
-            return Output {
-                len: 0,
-                failed: true,
-            };
+        if !self.failed {
+            self.failed = !write_all(&mut self.sink, front(&self.block, self.len));
         }
-        let written = write_all(sink, front(block, self.len));
-        Output {
-            len: 0,
-            failed: !written,
-        }
+        self.len = 0;
     }
 }
 
-// Writes a text, in as many calls as it takes. A call that fails or takes nothing is the last one.
+// Writes a text, in as many calls as it takes. A call that fails or takes nothing is the last one. Not by std's
+// `write_all`, which says little of what was written where it fails.
 fn write_all<W: Sink>(sink: &mut W, text: &[u8]) -> bool
     ensures { WroteAll W.writes sink.old sink.new text.now result }
 {
@@ -159,8 +146,10 @@ fn write_all<W: Sink>(sink: &mut W, text: &[u8]) -> bool
     true
 }
 
-// Says a message, on standard error, where a read or a write failed. That this write fails too is not told to anyone.
-pub fn report<W: Sink>(errors: &mut W, failed: bool, message: &[u8]) {
+/// Says a message, on standard error, where a read or a write failed. That this write fails too is not told to anyone.
+pub fn report<W: Sink>(errors: &mut W, failed: bool, message: &[u8])
+    ensures { Reported W.writes errors.old errors.new failed message.now }
+{
     if failed {
         write_all(errors, message);
     }
