@@ -1,13 +1,12 @@
 // Reading a head by its fields: too few bytes, or what the fields say. Written once for the heads whose fields stand in
 // the same bits of so many bytes.
-ghost use Rattle.std.specs.Prelude.{◌≡◌, ℕ, List, ◌≤◌, length, Ok};
+ghost use Rattle.std.specs.Prelude.{◌≡◌, ℕ, List, ◌≤◌, length};
 ghost use Rattle.heads.specs.Judge.{verdict_of, is_read, head_by_fields};
 ghost use Rattle.heads.specs.declared.info.Head.{Head};
-ghost use Rattle.heads.specs.declared.info.Head.TheVariants.{Read};
 
-use crate::info::{AudioFrameInfo, Head, Refusal};
+use crate::info::{Head, Refusal};
 
-// The fields of a head: how many bytes they are taken from, whether they are accepted, and what they then say.
+// The fields of a head: how many bytes they are taken from, whether they are accepted, and what they say.
 pub trait HeadFields: Copy {
     ghost SIZE: { ℕ };
 
@@ -28,10 +27,10 @@ pub trait HeadFields: Copy {
     fn verdict(self) -> Result<(), Refusal>
         ensures { result ≡ verdict_of (judged self) };
 
-    fn facts(self) -> AudioFrameInfo
-        requires widths { Fit self }
-        requires accepted { Ok tt ≡ verdict_of (judged self) }
-        ensures { Read result ≡ judged self };
+    // What the fields say, each of which fits its width.
+    fn judge(self) -> Head
+        requires { Fit self }
+        ensures { result ≡ judged self };
 }
 
 // The head at the front of b.
@@ -41,18 +40,7 @@ pub fn parse<F: HeadFields>(b: &[u8]) -> Head
     if b.len() < F::SIZE {
         return Head::Refused(Refusal::ShortHead);
     }
-    judge(F::of(b))
-}
-
-// What the fields say, each of which fits its width.
-pub fn judge<F: HeadFields>(fields: F) -> Head
-    requires { F.Fit fields }
-    ensures { result ≡ F.judged fields }
-{
-    match fields.verdict() {
-        Ok(()) => Head::Read(fields.facts()),
-        Err(refusal) => Head::Refused(refusal),
-    }
+    F::of(b).judge()
 }
 
 // Whether the head reads: the tests alone, without what the fields say.
