@@ -1,6 +1,5 @@
 // Output, collected in a block and written in one piece: a write for each byte would cost more than what the programs
 // do between.
-ghost use Rattle.std.specs.Prelude.{◌<◌, ◌≤◌};
 ghost use Rattle.text.specs.Call.{Reported, WroteAll};
 
 use crate::call::{Sink, write_at};
@@ -11,25 +10,24 @@ use numbers::{padding, places};
 pub const BLOCK_LEN: usize = 8192;
 
 /// A sink, and the bytes that are still to be written to it.
-#[derive(Drop)]
+#[derive(Clone, Copy, Drop)]
 pub struct Output<W, const N: usize> {
     pub sink: W,
     pub block: [u8; N],
-    /// How many bytes at the start of the block are still to be written.
+    /// How many bytes at the start of the block are still to be written. Where it says more than the block has, the block
+    /// is full.
     pub len: usize,
     /// Set once a write fails. Nothing is written from then on, since it would stand in the wrong place.
     pub failed: bool,
-    ghost within: { (0 < N) × (len ≤ N) },
 }
 
 impl<W: Sink, const N: usize> Output<W, N> {
     ghost use Rattle.std.specs.Prelude.{◌≡◌, ◌∷◌, [], ◌+◌, ◌≤◌, ◌<◌, length, replicate};
     ghost use Rattle.numbers.specs.Decimal.{decimal, right};
-    ghost use Rattle.text.specs.Output.{IsNew, MadeRoom, Put, Written};
+    ghost use Rattle.text.specs.Output.{Handed, IsNew, MadeRoom, Put, Written};
 
     /// With nothing collected yet.
     pub fn new(sink: W) -> Self
-        requires { 0 < N }
         ensures { IsNew sink result }
     {
         Output {
@@ -51,25 +49,42 @@ impl<W: Sink, const N: usize> Output<W, N> {
     pub fn make_room(&mut self, count: usize)
         ensures { MadeRoom W.writes count self.old self.new }
     {
-        if N - self.len < count {
+        if count > N || self.len > N - count {
             self.flush();
         }
     }
 
-    /// Puts a byte behind the others. A block that is full is written first.
+    /// Puts a byte behind the others. A block that is full is written first, whatever length its public field says.
     pub fn put_byte(&mut self, byte: u8)
         ensures { Put W.writes (byte ∷ []) self.old self.new }
     {
         self.make_room(1);
+        if N == 0 {
+            return self.pass(byte);
+        }
         self.block[self.len] = byte;
         self.len += 1;
+    }
+
+    // A byte for which no block of this length has room is written by itself.
+    fn pass(&mut self, byte: u8)
+        ensures len { self.new.len ≡ 1 }
+        ensures block { self.new.block ≡ self.old.block }
+        ensures handed { Handed W.writes self.old.sink self.new.sink self.old.failed self.new.failed (byte ∷ []) [] }
+    {
+        self.len = 1;
+        if self.failed {
+            return;
+        }
+        let all = write_all(&mut self.sink, &[byte]);
+        self.failed = !all;
     }
 
     /// Puts a text. One for which the block has room is copied in one run.
     pub fn put_text(&mut self, text: &[u8])
         ensures { Put W.writes text.now self.old self.new }
     {
-        if text.len() <= N - self.len {
+        if text.len() <= N && self.len <= N - text.len() {
             self.put_run(text);
         } else {
             self.put_each(text);
