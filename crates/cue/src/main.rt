@@ -16,11 +16,12 @@ fn main(rt: HostRuntime) -> ExitCode {
     let (mut input, mut errors) = (rt.stdin(), rt.stderr());
     let mut output = Output::new(Kept::new(rt.stdout()));
     let mut line: Line<LINE_MAX> = Line::new();
+    let mut cues = Cues::new();
     let message = b"cue: cannot read\n";
     let read_failed = answer_lines(
         &mut input,
         &mut line,
-        &mut Cues,
+        &mut cues,
         &mut output,
         &mut errors,
         message,

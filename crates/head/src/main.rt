@@ -19,11 +19,12 @@ fn main(rt: HostRuntime) -> ExitCode {
     let (mut input, mut errors) = (rt.stdin(), rt.stderr());
     let mut output = Output::new(Kept::new(rt.stdout()));
     let mut line: Line<LINE_MAX> = Line::new();
+    let mut answers = Answers::new();
     let message = b"head: cannot read\n";
     let read_failed = answer_lines(
         &mut input,
         &mut line,
-        &mut Answers,
+        &mut answers,
         &mut output,
         &mut errors,
         message,

@@ -38,17 +38,17 @@ fn whole<T: Drop>(word: &[u8], parsed: Parsed<T>) -> Option<T> {
     Some(value)
 }
 
-/// All that was read, if each was and they are at most `N`.
-pub fn listed<I, T, const N: usize>(read: I) -> Option<ArrayVec<T, N>>
+/// Lists all that was read, if each was and they are at most `N`, in place of what was listed before.
+pub fn list<I, T, const N: usize>(read: I, list: &mut ArrayVec<T, N>) -> Option<()>
 where
     I: Iterator<Item = Option<T>> + Drop,
     T: Default + Drop,
     requires can { I.can_next read }
     requires ends { IsFinite (I.remaining read) }
 {
-    let mut list = ArrayVec::new();
+    list.clear();
     for value in read {
         list.try_push(value?).ok()?;
     }
-    Some(list)
+    Some(())
 }
