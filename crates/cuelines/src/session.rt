@@ -1,5 +1,5 @@
 // A run over what is read: its first line, then the stream, payload by payload.
-ghost use Rattle.std.specs.Prelude.{◌≡◌, true, ◌≤◌, length};
+ghost use Rattle.std.specs.Prelude.{◌≡◌, true, ◌≤◌, length, IfErr};
 ghost use Rattle.splitter.specs.Push.{over};
 ghost use Rattle.sheet.specs.Sheet.{payload_size, payloads_of, end_of};
 ghost use Rattle.sheet.specs.Step.{end_most};
@@ -97,8 +97,9 @@ impl Session {
         times: &[i64],
     ) -> Result<(), Failure>
         requires { length times.now ≤ times_most }
-        ensures { NextHeard times.now (hearing (length times.now) self.old) block.new (is_failed result)
+        ensures heard { NextHeard times.now (hearing (length times.now) self.old) block.new (is_failed result)
             (hearing (length times.now) self.new) }
+        ensures failure { IfErr result (λ failure. failure ≡ Failure.Read) }
     {
         let filled = fill(source, block);
         self.cut_block(&block[..filled.len], times);
@@ -148,11 +149,12 @@ impl Session {
         }
     }
 
-    // The lines that were found, and the sheet's last line.
+    // The lines that were found, and the sheet's last line, a write for each.
     fn put_all<W: Sink>(&mut self, output: &mut Output<W, OUTPUT_LEN>, times: usize)
         requires { times ≤ times_most }
     {
         output.put_text(&self.found[..times * LINE_LEN]);
+        output.flush();
         let len = put_end(self.sheet, &mut self.text);
         output.put_text(front(&self.text, len));
     }

@@ -7,15 +7,15 @@ use Rattle.cuelines.specs.declared.session.Failure.TheVariants.{Read}
 use Rattle.cuelines.proofs.Going.{next_heard}
 use Rattle.cuelines.proofs.session.Session.cut_next.Goals as goal
 
-pub returns-then-filled : goal.returns-then-filled
-returns-then-filled g c =
+pub returns-then-filled-clause-heard : goal.returns-then-filled-clause-heard
+returns-then-filled-clause-heard g c =
     let full : length c.fill-filled.new.buffer ≡ 8 * payload_size = search rules in
     next_heard c.args.times.now (hearing (length c.args.times.now) c.args.self.now) c.fill-filled.new.buffer
     c.fill-filled.result c.fill-filled.ensures.most full c.cut_block.new.self c.after_read.new.self (Err Read)
     (sym c.if-filled.true) c.cut_block.ensures c.after_read.ensures
 
-pub returns : goal.returns
-returns g c =
+pub returns-clause-heard : goal.returns-clause-heard
+returns-clause-heard g c =
     let full : length c.fill-filled.new.buffer ≡ 8 * payload_size = search rules in
     next_heard c.args.times.now (hearing (length c.args.times.now) c.args.self.now) c.fill-filled.new.buffer
     c.fill-filled.result c.fill-filled.ensures.most full c.cut_block.new.self c.after_read.new.self (Ok tt)
