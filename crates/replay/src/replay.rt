@@ -29,6 +29,9 @@ pub fn run<R: Source, W: Sink, E: Sink>(
 ) -> bool {
     let mut line: Line<LINE_MAX> = Line::new();
     let mut replay = Replay::new();
+    // What the buffers hold before the first call. The pending one shows where a state has more pending than was set.
+    replay.buffers.pending.fill(0xA5);
+    replay.buffers.restore(Ends::all());
     let read_failed = answer_lines(
         source,
         &mut line,
